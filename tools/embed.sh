@@ -8,8 +8,8 @@
 # commands; the comparison is shown wrong programs, wrong libraries and wrong models, and must find each. The library is installed
 # below a folder, and programs outside the repository find it: in C by pkg-config and by CMake, in Rust by cargo, in Python by
 # pip. Each target of tools/release.sh is packed, and plays the examples on the processor that it is made for. A master and its
-# slaves run for five seconds where a network namespace can be made, and tshark reads their capture; where none can be made, that is
-# said. What is missing is named, and counts as failed: tools/embed.packages has the Debian packages. The last line is 'N passed, M
+# slaves run for five seconds, and tools come, go and fail beside two axes, where network namespaces can be made; tshark reads a
+# capture; where none can be made, that is said. What is missing is named, and counts as failed: tools/embed.packages has the Debian packages. The last line is 'N passed, M
 # failed'. A word after its name is a program to be compared with in place of the built hotline.
 #
 # tools/embed.sh --short, which the gate runs, takes the callers alone, with 20,000 drawn calls, a tenth of the orders and a
@@ -66,19 +66,19 @@ soak() {
     report_run $? "100,000 cycles with a thread for each task"
 }
 
-# masters: a master and its slaves, two processes, for five seconds; one that changes its tool with one frame of register
-# writes; one with a thread for each task; then the first in Python
+# masters: a master and its slaves, two processes, for five seconds; tools that come, go and fail beside two axes; a master with a thread
+# for each task; then the first in Python
 masters() {
     timeout 60 "$scratch/master" examples/tool_changer.toml 5 1000 "$scratch/master.pcap"
     status=$?
     [ $status -ne 77 ] || return
     report $status "the master"
-    timeout 60 "$scratch/docking" examples/own_tasks.toml 5 1000 "$scratch/docking.pcap"
-    report $? "a tool that is changed with one frame"
+    timeout 60 "$scratch/changes" examples/own_tasks.toml
+    report $? "axes that lose a cycle while tools come, go and fail"
     timeout 60 "$scratch/tasks" examples/own_tasks.toml 5000 1000 >"$scratch/printed"
     report_run $? "a thread for each task"
     soak
-    ! { has tshark && has text2pcap; } || { read_capture master; read_capture docking; read_malformed; }
+    ! { has tshark && has text2pcap; } || { read_capture master; read_malformed; }
     timeout 60 unshare -n python3 examples/master/master.py examples/tool_changer.toml 5
     report $? "the master in Python"
 }

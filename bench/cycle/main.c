@@ -1,9 +1,9 @@
-/* Times a cycle of one datagram of 100 bytes, 50 each way: by the library, with all tasks sent or the ready ones, by plain C with
- * the same duties, and by a bare loop, in one process and turn about. What is printed are medians over the turns: nanoseconds a
+/* Times a cycle of one datagram of 100 bytes, 50 each way: by the library, by plain C with the same
+ * duties, and by a bare loop, in one process and turn about. What is printed are medians over the turns: nanoseconds a
  * cycle and their ratios. First each side is seen to send the same data and to take the same answers.
  *
- * Words: none; or `count SIDE CYCLES`, which runs so many cycles of one side, `library`, `ready`, `plain` or `bare`, and nothing
- * else, for who counts instructions. */
+ * Words: none; or `count SIDE CYCLES`, which runs so many cycles of one side, `library`, `plain` or `bare`, and nothing else, for
+ * who counts instructions. */
 #include <stdio.h>
 #include <stdlib.h>
 #include <string.h>
@@ -16,8 +16,8 @@
 #define CYCLES 40000
 #define HALF 50
 
-enum side { LIBRARY, READY, PLAIN, BARE, SIDES };
-static const char *const NAMES[SIDES] = {"library", "ready", "plain", "bare"};
+enum side { LIBRARY, PLAIN, BARE, SIDES };
+static const char *const NAMES[SIDES] = {"library", "plain", "bare"};
 
 static const char PROJECT[] =
     "[[slave]]\nstation = 1001\n"
@@ -47,19 +47,19 @@ static void write_all(struct zangjulf *line) {
     struct zangjulf_arrival arrival;
     while (!zangjulf_next_write(line, frame, sizeof frame, &write)) {
         frame[26 + frame[22]] = 1;
-        if (zangjulf_arrive(line, frame, write.size, &outcome, 1, &arrival) != ZANGJULF_WRITE_DONE) give_up("a block isn't written");
+        if (zangjulf_arrive(line, frame, write.size, &outcome, 1, &arrival) || outcome.kind != ZANGJULF_BLOCK_WRITTEN) give_up("a block isn't written");
     }
 }
 
 static void open_sides(struct sides *sides) {
-    struct zangjulf_part part;
+    const struct zangjulf_options options = {sizeof options, 0};
+    struct zangjulf_image_sizes sizes;
     uint8_t over_limit;
     memset(sides, 0, sizeof *sides);
-    if (zangjulf_open(&sides->library, (const uint8_t *)PROJECT, sizeof PROJECT - 1, 0, &over_limit)) give_up("the project isn't opened");
+    if (zangjulf_open(&sides->library, &options, (const uint8_t *)PROJECT, sizeof PROJECT - 1, &over_limit)) give_up("the project isn't opened");
     write_all(&sides->library);
-    zangjulf_datagram(&sides->library, 0, 0, &sides->datagram);
-    zangjulf_part(&sides->library, 0, &part);
-    if (sides->datagram.length != 2 * HALF || part.outputs != HALF) give_up("another line than meant");
+    if (zangjulf_datagram(&sides->library, 0, 0, &sides->datagram) || zangjulf_image_sizes(&sides->library, 0, &sizes)) give_up("no datagram");
+    if (sides->datagram.length != 2 * HALF || sizes.outputs != HALF) give_up("another line than meant");
     struct task *task = &sides->plain.tasks[0];
     task->count = 1, task->outputs = HALF;
     task->datagrams[0] = (struct datagram){.address = sides->datagram.address, .length = 2 * HALF, .expected = sides->datagram.expected, .outputs = HALF};
@@ -72,31 +72,21 @@ static void pass(const struct sides *sides, uint8_t *frame) {
     frame[26 + 2 * HALF] = (uint8_t)sides->datagram.expected;
 }
 
-/* Sends the task, all tasks being programmed or this one ready, and says how many bytes its frame has. */
-static bool send(struct zangjulf *line, uint8_t *frame, bool ready, size_t *size) {
-    static const uint8_t task = 0;
-    struct zangjulf_sent sent;
-    struct zangjulf_sent_ready sent_ready;
-    if (ready ? zangjulf_send_ready(line, &task, 1, frame, ZANGJULF_FRAME, &sent_ready)
-              : zangjulf_send(line, &task, 1, frame, ZANGJULF_FRAME, &sent))
-        return false;
-    *size = ready ? sent_ready.size : sent.size;
-    return true;
-}
-
 /* A cycle of each side, with outputs posted and inputs read if it is whole; it counts the good ones. */
-static void by_library(struct sides *sides, uint8_t value, bool ready, bool whole) {
+static void by_library(struct sides *sides, uint8_t value, bool whole) {
+    static const uint8_t task = 0;
     uint8_t frame[ZANGJULF_FRAME], outputs[HALF], image[2 * HALF];
-    size_t size;
+    struct zangjulf_sent sent;
     struct zangjulf_outcome outcome;
     struct zangjulf_arrival arrival;
-    struct zangjulf_image sizes;
+    struct zangjulf_image read;
     uint64_t serial;
-    if (whole) memset(outputs, value, HALF), zangjulf_post(&sides->library, 0, 0, outputs, HALF);
-    if (!send(&sides->library, frame, ready, &size)) return;
+    memset(outputs, value, HALF);
+    if (whole && zangjulf_post(&sides->library, 0, 0, outputs, HALF)) return;
+    if (zangjulf_send(&sides->library, &task, 1, frame, sizeof frame, NULL, 0, &sent)) return;
     pass(sides, frame);
-    if (zangjulf_arrive(&sides->library, frame, size, &outcome, 1, &arrival)) return;
-    if (whole) zangjulf_read(&sides->library, 0, image, sizeof image, &serial, 1, &sizes);
+    if (zangjulf_arrive(&sides->library, frame, sent.size, &outcome, 1, &arrival)) return;
+    if (whole && zangjulf_read(&sides->library, 0, image, sizeof image, &serial, 1, &read)) return;
     sides->good += outcome.kind == ZANGJULF_INPUTS && (!whole || image[HALF] == (uint8_t)(value + 1));
 }
 
@@ -124,7 +114,7 @@ static void by_bare(struct sides *sides, uint8_t value, bool whole) {
 static void run(struct sides *sides, enum side side, size_t cycles, bool whole) {
     sides->good = 0;
     for (size_t i = 0; i < cycles; i++) {
-        if (side == LIBRARY || side == READY) by_library(sides, (uint8_t)i, side == READY, whole);
+        if (side == LIBRARY) by_library(sides, (uint8_t)i, whole);
         else if (side == PLAIN) by_plain(sides, (uint8_t)i, whole);
         else by_bare(sides, (uint8_t)i, whole);
     }
@@ -151,10 +141,9 @@ static void time_cycle(struct sides *sides, bool whole) {
             times[side][turn] = (now() - begun) / CYCLES;
         }
     for (int side = 0; side < SIDES; side++) qsort(times[side], TURNS, sizeof(double), by_size);
-    double library = times[LIBRARY][TURNS / 2], ready = times[READY][TURNS / 2], plain = times[PLAIN][TURNS / 2];
-    double bare = times[BARE][TURNS / 2];
-    printf("%s: library %.1f ns, of ready tasks %.1f, plain C with its duties %.1f, bare loop %.1f: %.2f and %.2f times\n",
-           whole ? "post, send, arrive, read" : "send, arrive", library, ready, plain, bare, library / plain, library / bare);
+    double library = times[LIBRARY][TURNS / 2], plain = times[PLAIN][TURNS / 2], bare = times[BARE][TURNS / 2];
+    printf("%s: library %.1f ns, plain C with its duties %.1f, bare loop %.1f: %.2f and %.2f times\n",
+           whole ? "post, send, arrive, read" : "send, arrive", library, plain, bare, library / plain, library / bare);
 }
 
 int main(int count, char **words) {
@@ -167,6 +156,5 @@ int main(int count, char **words) {
     }
     time_cycle(&sides, false);
     time_cycle(&sides, true);
-    zangjulf_close(&sides.library);
-    return 0;
+    return zangjulf_close(&sides.library);
 }

@@ -15,6 +15,6 @@ command -v valgrind > /dev/null || exit 0
 instructions() {
     valgrind --tool=callgrind --callgrind-out-file=/dev/null "$scratch/cycle" count "$1" "$2" 2>&1 | sed -n 's/.*Collected : //p'
 }
-for side in library ready plain bare; do
+for side in library plain bare; do
     printf '%s: %d instructions a cycle\n' "$side" $((($(instructions $side 12000) - $(instructions $side 2000)) / 10000))
 done

@@ -1,5 +1,5 @@
 /* Drawn events, played through the library and inside the language, which must give the same of each: the answer, byte by
- * byte, the changes, how many blocks are owed and the next serial. */
+ * byte, how many blocks are owed and the next serial. */
 #include <stdio.h>
 #include <string.h>
 
@@ -64,12 +64,11 @@ static void copy_bytes(struct asked *asked, const uint8_t *own, size_t size) {
 }
 
 static uint64_t post(struct asked *asked) {
-    struct zangjulf_part part = {0, 0};
+    struct zangjulf_image_sizes sizes = {0, 0};
     static uint8_t own[ZANGJULF_IMAGE];
     asked->task = (uint8_t)below(9);
-    zangjulf_part(&line, asked->task, &part);
-    zangjulf_epoch(&line, &asked->epoch);
-    size_t size = below(8) ? part.outputs : below(8);
+    if (zangjulf_image_sizes(&line, asked->task, &sizes) || zangjulf_epoch(&line, &asked->epoch)) give_up("a look-up");
+    size_t size = below(8) ? sizes.outputs : below(8);
     if (!below(8)) asked->epoch++;
     for (size_t i = 0; i < size; i++) own[i] = (uint8_t)below(256);
     copy_bytes(asked, own, size);
@@ -77,16 +76,28 @@ static uint64_t post(struct asked *asked) {
     return number ? refused(number) : mixed(0, 12);
 }
 
+/* Tasks are sent inside the language if no block is owed, whatever slaves outside the line may map: they are unplugged. */
+static bool may_send(const uint8_t *tasks, size_t count) {
+    uint32_t owed = 0;
+    uint16_t station;
+    if (zangjulf_owed(&line, &owed) || owed) return false;
+    for (size_t i = 0; i < count; i++)
+        while (!zangjulf_held_by(&line, tasks[i], 0, &station))
+            if (zangjulf_unplugged(&line, station)) give_up("a slave that isn't outside the line");
+    return true;
+}
+
 static uint64_t send(struct asked *asked) {
-    struct zangjulf_sent sent = {0, 0, 0};
+    struct zangjulf_frame table[ZANGJULF_FRAME_COUNT];
+    struct zangjulf_sent sent;
     unsigned list = asked->task = (uint8_t)below(5);
-    unsigned number = zangjulf_send(&line, LISTS[list], LIST_SIZES[list], out, sizeof out, &sent);
+    if (!may_send(LISTS[list], LIST_SIZES[list])) return refused(17); /* Unprogrammed */
+    unsigned number = zangjulf_send(&line, LISTS[list], LIST_SIZES[list], out, sizeof out, table, ZANGJULF_FRAME_COUNT, &sent);
     if (number) return refused(number);
     uint64_t mix = mixed(mixed(0, 13), sent.frames);
-    const uint8_t *frame = out;
-    for (size_t i = 0; i < sent.frames; i++, frame += zangjulf_frame_size(frame)) {
-        mix = mixed_bytes(mixed(mix, zangjulf_frame_size(frame)), frame, zangjulf_frame_size(frame));
-        keep(frame, zangjulf_frame_size(frame), false);
+    for (uint32_t i = 0; i < sent.frames; i++) {
+        mix = mixed_bytes(mixed(mix, table[i].size), out + table[i].offset, table[i].size);
+        keep(out + table[i].offset, table[i].size, false);
     }
     return mix;
 }
@@ -110,20 +121,16 @@ static uint64_t outcome(uint64_t mix, const struct zangjulf_outcome *one) {
 static uint64_t arrive(struct asked *asked) {
     struct zangjulf_outcome outcomes[ZANGJULF_OUTCOMES];
     size_t i = below(FRAMES), size = below(16) ? frame_sizes[i] : below(60);
-    struct zangjulf_arrival arrival = {0, 0, 0, 0};
+    struct zangjulf_arrival arrival;
     if (!below(8)) frames[i][below(ZANGJULF_FRAME)] = (uint8_t)below(256);
     copy_bytes(asked, frames[i], size);
     unsigned number = zangjulf_arrive(&line, frames[i], size, outcomes, ZANGJULF_OUTCOMES, &arrival);
+    if (number) return refused(number);
+    if (arrival.kind == ZANGJULF_STALE) return mixed(0, 18);
+    if (arrival.kind == ZANGJULF_OF_BLOCKS) return mixed(0, outcomes[0].kind == ZANGJULF_BLOCK_WRITTEN ? 16 : 17);
     uint64_t mix = mixed(mixed(0, 15), arrival.datagrams);
-    switch (number) {
-    case ZANGJULF_DONE:
-        for (size_t k = 0; k < arrival.datagrams; k++) mix = outcome(mix, &outcomes[k]);
-        return mix;
-    case ZANGJULF_WRITE_DONE: return mixed(0, 16);
-    case ZANGJULF_WRITE_MISSED: return mixed(0, 17);
-    case ZANGJULF_STALE: return mixed(0, 18);
-    default: return refused(number);
-    }
+    for (size_t k = 0; k < arrival.datagrams; k++) mix = outcome(mix, &outcomes[k]);
+    return mix;
 }
 
 /* A read inside the language gives the data of the present epoch alone. */
@@ -152,11 +159,11 @@ static uint64_t edit(struct asked *asked) {
         asked->name = (uint16_t)(below(8) ? 1001 + below(7) : 2001), asked->area = (uint8_t)below(6), asked->task = (uint8_t)below(9);
         asked->count = (uint8_t)below(3), asked->first = (uint16_t)(0x1600 + below(3)), asked->second = (uint16_t)(0x1600 + below(3));
         const uint16_t pdos[2] = {asked->first, asked->second};
-        number = asked->kind == MOVE ? zangjulf_move(&line, asked->name, asked->area, asked->task, false, &cost)
+        number = asked->kind == MOVE ? zangjulf_move_area(&line, asked->name, asked->area, asked->task, false, &cost)
                                      : zangjulf_remap(&line, asked->name, asked->area, pdos, asked->count, false, &cost);
     }
     if (number) return refused(number);
-    zangjulf_next_serial(&line, &first);
+    if (zangjulf_next_serial(&line, &first)) give_up("a serial");
     return mixed(mixed(mixed(mixed(0, 11), cost.epoch), cost.recut), cost.moved);
 }
 
@@ -174,25 +181,21 @@ static uint64_t serve(struct asked *asked) {
     }
 }
 
-static uint64_t with_changes(uint64_t mix) {
-    struct zangjulf_change change;
-    while (!zangjulf_next_change(&line, out, sizeof out, &change))
-        mix = change.kind == ZANGJULF_SWAPPED ? mixed(mix, 32)
-                                              : mixed_bytes(mixed(mixed(mixed(mix, 31), change.task), change.datagram), out, change.size);
+static uint64_t with_numbers(uint64_t mix) {
     uint32_t owed = 0;
     uint64_t serial = 0;
-    zangjulf_owed(&line, &owed);
-    zangjulf_next_serial(&line, &serial);
+    if (zangjulf_owed(&line, &owed) || zangjulf_next_serial(&line, &serial)) give_up("a look-up");
     return mixed(mixed(mix, owed), serial);
 }
 
 void compare(size_t count) {
     size_t size;
     uint8_t task;
+    const struct zangjulf_options options = {sizeof options, 0};
     const uint8_t *text = project(&size);
-    if (count > MOST || zangjulf_open(&line, text, size, UINT32_MAX, &task)) give_up("nothing can be compared");
-    for (size_t i = 0; i < count; i++) digest[i] = with_changes(serve(&events[i]));
-    zangjulf_close(&line);
+    if (count > MOST || zangjulf_open(&line, &options, text, size, &task)) give_up("nothing can be compared");
+    for (size_t i = 0; i < count; i++) digest[i] = with_numbers(serve(&events[i]));
+    zangjulf_free(&line);
     if (inside_digests(text, size, events, count, bytes, used, inside, count) != count) give_up("not all events were played");
     for (size_t i = 0; i < count; i++)
         if (digest[i] != inside[i]) {

@@ -72,7 +72,7 @@ uint32_t write_all(struct zangjulf *line) {
     uint32_t writes = 0;
     for (; !zangjulf_next_write(line, frame, sizeof frame, &write); writes++) {
         frame[26 + frame[22]] = 1;
-        if (zangjulf_arrive(line, frame, write.size, &outcome, 1, &arrival) != ZANGJULF_WRITE_DONE) give_up("a block isn't written");
+        if (zangjulf_arrive(line, frame, write.size, &outcome, 1, &arrival) || outcome.kind != ZANGJULF_BLOCK_WRITTEN) give_up("a block isn't written");
     }
     return writes;
 }

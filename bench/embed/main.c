@@ -72,8 +72,9 @@ static struct zangjulf open_line(void) {
     struct zangjulf line = {0};
     size_t size;
     uint8_t task;
+    const struct zangjulf_options options = {sizeof options, 0};
     const uint8_t *text = project(&size);
-    if (zangjulf_open(&line, text, size, UINT32_MAX, &task)) give_up("the project isn't opened");
+    if (zangjulf_open(&line, &options, text, size, &task)) give_up("the project isn't opened");
     return line;
 }
 
@@ -85,14 +86,14 @@ static void fill_slave(struct slices *slices, const uint8_t *frame, size_t size)
     struct zangjulf_write written;
     struct zangjulf_arrival arrival;
     struct zangjulf_outcome outcome;
-    zangjulf_slave_start(slices->out, ZANGJULF_SLAVE_MEMORY, 0);
+    if (zangjulf_slave_start(slices->out, ZANGJULF_SLAVE_MEMORY, 0)) give_up("a slave");
     memcpy(slices->out + 0x10, &station, 2);
     while (!zangjulf_next_write(&line, write, sizeof write, &written)) {
-        zangjulf_slave_process(slices->out, ZANGJULF_SLAVE_MEMORY, write, written.size);
+        if (zangjulf_slave_process(slices->out, ZANGJULF_SLAVE_MEMORY, write, written.size)) give_up("a slave");
         write[26 + write[22]] = 1;
-        zangjulf_arrive(&line, write, written.size, &outcome, 1, &arrival);
+        if (zangjulf_arrive(&line, write, written.size, &outcome, 1, &arrival)) give_up("an arrival");
     }
-    zangjulf_close(&line);
+    zangjulf_free(&line);
     memcpy(slices->in, frame, size);
 }
 
@@ -101,34 +102,27 @@ static uint32_t prepare(const struct row *row, struct slices *slices) {
     struct zangjulf line = open_line();
     static uint8_t frames[ZANGJULF_FRAMES];
     const struct timed *timed = &row->timed;
-    struct zangjulf_sent sent = {0, 0, 0};
+    struct zangjulf_sent sent = {0};
+    size_t previewed = 0;
     memset(slices, 0, sizeof *slices);
     memset(slices->in, 0x69, row->in);
     slices->in_size = row->in, slices->out_size = row->out;
     uint32_t writes = timed->kind == WRITE ? 0 : write_all(&line);
     if (timed->kind == SEND || timed->kind == EXCHANGE || timed->kind == READ || timed->kind == PROCESS) {
-        if (zangjulf_send(&line, LISTS[timed->task], LIST_SIZES[timed->task], frames, sizeof frames, &sent) || sent.frames != 1) give_up("no frame");
+        if (zangjulf_send(&line, LISTS[timed->task], LIST_SIZES[timed->task], frames, sizeof frames, NULL, 0, &sent) || sent.frames != 1) give_up("no frame");
         slices->counted_count = counters(&line, timed->task, frames, slices->counted);
         if (timed->kind != PROCESS) slices->out_size = sent.size;
     }
     if (timed->kind == PROCESS) fill_slave(slices, frames, sent.size);
-    if (timed->kind == STALE) zangjulf_preview(&line, 3, 0, slices->in, sizeof slices->in, &sent.size);
+    if (timed->kind == STALE && zangjulf_preview(&line, 3, 0, slices->in, sizeof slices->in, &previewed)) give_up("no preview");
     if (timed->kind == DECLARE) slices->in_size = sizeof GROUP - 1, memcpy(slices->in, GROUP, sizeof GROUP - 1);
-    zangjulf_close(&line);
+    zangjulf_free(&line);
     return writes;
-}
-
-static bool take_changes(struct zangjulf *line) {
-    static uint8_t data[MOST_DATA];
-    struct zangjulf_change change;
-    bool is_any = false;
-    while (!zangjulf_next_change(line, data, sizeof data, &change)) is_any = true;
-    return is_any;
 }
 
 static bool send(struct zangjulf *line, const struct timed *timed, struct slices *slices) {
     struct zangjulf_sent sent;
-    return !zangjulf_send(line, LISTS[timed->task], LIST_SIZES[timed->task], slices->out, slices->out_size, &sent);
+    return !zangjulf_send(line, LISTS[timed->task], LIST_SIZES[timed->task], slices->out, slices->out_size, NULL, 0, &sent);
 }
 
 static bool exchange(struct zangjulf *line, const struct timed *timed, struct slices *slices) {
@@ -136,8 +130,7 @@ static bool exchange(struct zangjulf *line, const struct timed *timed, struct sl
     struct zangjulf_arrival arrival;
     if (!send(line, timed, slices)) return false;
     for (size_t i = 0; i < slices->counted_count; i++) slices->out[slices->counted[i].at] = slices->counted[i].count;
-    bool is_answered = !zangjulf_arrive(line, slices->out, slices->out_size, outcomes, ZANGJULF_OUTCOMES, &arrival);
-    return is_answered & take_changes(line);
+    return !zangjulf_arrive(line, slices->out, slices->out_size, outcomes, ZANGJULF_OUTCOMES, &arrival) && arrival.kind == ZANGJULF_OF_TASKS;
 }
 
 static bool look(struct zangjulf *line, const struct timed *timed, struct slices *slices) {
@@ -146,7 +139,7 @@ static bool look(struct zangjulf *line, const struct timed *timed, struct slices
     uint16_t station;
     struct zangjulf_place place;
     struct zangjulf_datagram datagram;
-    struct zangjulf_part part = {0, 0};
+    struct zangjulf_image_sizes sizes = {0, 0};
     struct zangjulf_block block;
     switch (timed->kind) {
     case EPOCH: return !zangjulf_epoch(line, &number) && number == timed->name;
@@ -154,7 +147,7 @@ static bool look(struct zangjulf *line, const struct timed *timed, struct slices
     case OWED: return !zangjulf_owed(line, &number) && number == timed->name;
     case PLACE: return !zangjulf_place(line, timed->name, &place);
     case DATAGRAM: return !zangjulf_datagram(line, timed->task, 0, &datagram);
-    case PART: return !zangjulf_part(line, timed->task, &part) && part.outputs > 0;
+    case PART: return !zangjulf_image_sizes(line, timed->task, &sizes) && sizes.outputs > 0;
     case STATION: return !zangjulf_station(line, timed->name, &station);
     case POSITION: return !zangjulf_position(line, timed->name, &number);
     default: return !zangjulf_block(line, timed->name, 0, slices->out, slices->out_size, &block);
@@ -166,16 +159,16 @@ static bool edit(struct zangjulf *line, const struct timed *timed, struct slices
     struct zangjulf_cost cost;
     switch (timed->kind) {
     case CONNECT: {
-        bool comes = !zangjulf_connect(line, name, false, &cost) && take_changes(line);
-        return comes & (!zangjulf_disconnect(line, name, false, &cost) && take_changes(line));
+        bool comes = !zangjulf_connect(line, name, false, &cost);
+        return comes & (!zangjulf_disconnect(line, name, false, &cost));
     }
     case REMAP: {
-        bool goes = !zangjulf_remap(line, name, 0, &pdo, 0, false, &cost) && take_changes(line);
-        return goes & (!zangjulf_remap(line, name, 0, &pdo, 1, false, &cost) && take_changes(line));
+        bool goes = !zangjulf_remap(line, name, 0, &pdo, 0, false, &cost);
+        return goes & (!zangjulf_remap(line, name, 0, &pdo, 1, false, &cost));
     }
     case MOVE: {
-        bool moves = !zangjulf_move(line, name, 0, timed->task, false, &cost) && take_changes(line);
-        return moves & (!zangjulf_move(line, name, 0, 3, false, &cost) && take_changes(line));
+        bool moves = !zangjulf_move_area(line, name, 0, timed->task, false, &cost);
+        return moves & (!zangjulf_move_area(line, name, 0, 3, false, &cost));
     }
     case DECLARE: return !zangjulf_declare(line, slices->in, slices->in_size, true, &cost);
     default: return !zangjulf_connect(line, name, true, &cost);
@@ -194,7 +187,7 @@ static bool once(struct zangjulf *line, const struct timed *timed, struct slices
     case POST: return !zangjulf_post(line, timed->task, 0, slices->in, slices->in_size);
     case SEND: return send(line, timed, slices);
     case EXCHANGE: return exchange(line, timed, slices);
-    case STALE: return zangjulf_arrive(line, slices->in, slices->in_size, &outcome, 1, &arrival) == ZANGJULF_STALE;
+    case STALE: return !zangjulf_arrive(line, slices->in, slices->in_size, &outcome, 1, &arrival) && arrival.kind == ZANGJULF_STALE;
     case READ: return !zangjulf_read(line, timed->task, slices->out, slices->out_size, serials, ZANGJULF_DATAGRAMS, &image) && image.size;
     case PREVIEW: return !zangjulf_preview(line, timed->task, 0, slices->out, slices->out_size, &size);
     case WRITE: return !zangjulf_next_write(line, slices->out, slices->out_size, &write);
@@ -221,7 +214,7 @@ static uint64_t through_timed(uint32_t writes, const struct timed *timed, struct
         for (uint32_t k = 0; k < timed->calls; k++) count += once(&line, timed, slices);
         times[i] = nanoseconds() - begun;
     }
-    zangjulf_close(&line);
+    zangjulf_free(&line);
     return count;
 }
 

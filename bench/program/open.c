@@ -7,10 +7,11 @@
 int main(void) {
     static uint8_t text[8 << 20];
     struct zangjulf line = {0};
+    const struct zangjulf_options options = {sizeof options, 0};
     uint8_t over_limit;
     size_t size = fread(text, 1, sizeof text, stdin);
-    uint8_t answer = zangjulf_open(&line, text, size, 0, &over_limit);
+    uint8_t answer = zangjulf_open(&line, &options, text, size, &over_limit);
     if (answer) fprintf(stderr, "open: %s\n", zangjulf_text(answer));
-    zangjulf_close(&line);
+    zangjulf_free(&line);
     return answer != ZANGJULF_DONE;
 }

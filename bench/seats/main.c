@@ -50,6 +50,7 @@ static size_t write_area(char *text, size_t room, const char *way, unsigned numb
 
 static void open_line(void) {
     static char text[1 << 16];
+    const struct zangjulf_options options = {sizeof options, 0};
     uint8_t frame[ZANGJULF_FRAME], task = 0;
     struct zangjulf_write write;
     struct zangjulf_outcome outcome;
@@ -57,10 +58,10 @@ static void open_line(void) {
     size_t length = (size_t)snprintf(text, sizeof text, "[[slave]]\nstation = 1001\n");
     length += write_area(text + length, sizeof text - length, "out", 0, outputs);
     length += write_area(text + length, sizeof text - length, "in", 1, size - outputs);
-    done(zangjulf_open(&line, (const uint8_t *)text, length, 0, &task), "open");
+    done(zangjulf_open(&line, &options, (const uint8_t *)text, length, &task), "open");
     while (!zangjulf_next_write(&line, frame, sizeof frame, &write)) {
         frame[26 + frame[22]] = 1;
-        if (zangjulf_arrive(&line, frame, write.size, &outcome, 1, &arrival) != ZANGJULF_WRITE_DONE) give_up("a register write");
+        if (zangjulf_arrive(&line, frame, write.size, &outcome, 1, &arrival) || outcome.kind != ZANGJULF_BLOCK_WRITTEN) give_up("a register write");
     }
     done(zangjulf_seat_open(&line, 0, &seat), "seat_open");
 }
@@ -75,7 +76,7 @@ static void exchange(void) {
     struct zangjulf_arrival arrival;
     for (size_t i = 0; i < outputs; i++) posted[i] = (uint8_t)(i * 7 + 1);
     done(zangjulf_post(&line, 0, 0, posted, outputs), "post");
-    done(zangjulf_send(&line, &task, 1, frame, sizeof frame, &sent), "send");
+    done(zangjulf_send(&line, &task, 1, frame, sizeof frame, NULL, 0, &sent), "send");
     memcpy(sent_bytes, frame + 26, size);
     for (size_t i = outputs; i < size; i++) frame[26 + i] = (uint8_t)(i * 31);
     memcpy(data, frame + 26, size);

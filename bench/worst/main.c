@@ -114,17 +114,17 @@ static void write_blocks(bool counts) {
         if (answer) return;
         pass_writes(frame, writes.size);
         if (counts && below(8) == 0) frame[26] ^= 1; /* a frame that comes back spoilt is sent again */
-        if (counts) COUNTED(ARRIVE_WRITTEN, zangjulf_arrive(&line, frame, writes.size, outcomes, ZANGJULF_OUTCOMES, &arrival));
-        else zangjulf_arrive(&line, frame, writes.size, outcomes, ZANGJULF_OUTCOMES, &arrival);
+        if (counts) COUNTED(ARRIVE_WRITTEN, answer = zangjulf_arrive(&line, frame, writes.size, outcomes, ZANGJULF_OUTCOMES, &arrival));
+        else answer = zangjulf_arrive(&line, frame, writes.size, outcomes, ZANGJULF_OUTCOMES, &arrival);
     }
 }
 
 static void look_at_line(void) {
     for (uint8_t task = 0; task < ZANGJULF_TASKS; task++) {
         struct zangjulf_datagram datagram;
-        struct zangjulf_part part;
-        zangjulf_part(&line, task, &part);
-        outputs[task] = part.outputs;
+        struct zangjulf_image_sizes sizes;
+        if (zangjulf_image_sizes(&line, task, &sizes)) give_up("no sizes");
+        outputs[task] = sizes.outputs;
         for (uint8_t number = 0; number < ZANGJULF_DATAGRAMS; number++) {
             if (zangjulf_datagram(&line, task, number, &datagram)) give_up("a task has less than 16 datagrams");
             expected[task][number] = datagram.expected;
@@ -135,9 +135,10 @@ static void look_at_line(void) {
 static void open_line(void) {
     size_t size;
     uint8_t over_limit;
+    const struct zangjulf_options options = {sizeof options, 0};
     struct zangjulf_cost cost;
     char *text = line_text(&size);
-    if (zangjulf_open(&line, (const uint8_t *)text, size, 0, &over_limit)) give_up("the project isn't opened");
+    if (zangjulf_open(&line, &options, (const uint8_t *)text, size, &over_limit)) give_up("the project isn't opened");
     free(text);
     for (uint16_t alias = 1; alias <= GROUPS; alias++)
         if (zangjulf_connect(&line, alias, false, &cost)) give_up("a group isn't connected");
@@ -154,7 +155,7 @@ static void draw_bytes(uint8_t *bytes, size_t size) {
 /* An epoch that is mostly the present one. */
 static uint32_t drawn_epoch(void) {
     uint32_t epoch;
-    zangjulf_epoch(&line, &epoch);
+    if (zangjulf_epoch(&line, &epoch)) give_up("no epoch");
     return below(16) ? epoch : below(16);
 }
 
@@ -162,14 +163,17 @@ static void post(void) {
     static uint8_t bytes[ZANGJULF_IMAGE];
     uint8_t task = (uint8_t)below(ZANGJULF_TASKS);
     uint32_t epoch = drawn_epoch();
+    uint8_t answer;
     draw_bytes(bytes, 64);
-    COUNTED(POST, zangjulf_post(&line, task, epoch, bytes, outputs[task]));
+    COUNTED(POST, answer = zangjulf_post(&line, task, epoch, bytes, outputs[task]));
+    if (answer && answer != ZANGJULF_STALE_POST) give_up("a post");
 }
 
 /* Drawn tasks are sent in a drawn order. Their frames take the places of the oldest ones that are under way. */
 static void send_tasks(void) {
     static uint8_t frames[ZANGJULF_FRAMES];
     uint8_t tasks[ZANGJULF_TASKS] = {0, 1, 2, 3, 4, 5, 6, 7};
+    struct zangjulf_frame table[ZANGJULF_FRAME_COUNT];
     struct zangjulf_sent sent;
     uint8_t answer;
     size_t count = 1 + below(ZANGJULF_TASKS);
@@ -178,12 +182,12 @@ static void send_tasks(void) {
         uint8_t task = tasks[i];
         tasks[i] = tasks[other], tasks[other] = task;
     }
-    COUNTED(SEND, answer = zangjulf_send(&line, tasks, count, frames, sizeof frames, &sent));
+    COUNTED(SEND, answer = zangjulf_send(&line, tasks, count, frames, sizeof frames, table, ZANGJULF_FRAME_COUNT, &sent));
     if (answer) return;
-    for (size_t at = 0; at < sent.size; at += zangjulf_frame_size(frames + at)) {
+    for (uint32_t i = 0; i < sent.frames; i++) {
         struct frame *frame = &waiting[sent_frames++ % WAITING];
-        frame->size = zangjulf_frame_size(frames + at);
-        memcpy(frame->bytes, frames + at, frame->size);
+        frame->size = table[i].size;
+        memcpy(frame->bytes, frames + table[i].offset, frame->size);
     }
 }
 
@@ -226,37 +230,43 @@ static void arrive(void) {
     begin_count();
     answer = zangjulf_arrive(&line, frame.bytes, frame.size, outcomes, ZANGJULF_OUTCOMES, &arrival);
     end_count();
-    note(!answer ? ARRIVE_TASKS : answer == ZANGJULF_STALE ? ARRIVE_STALE : ARRIVE_FAULTY);
+    note(answer ? ARRIVE_FAULTY : arrival.kind == ZANGJULF_STALE ? ARRIVE_STALE : ARRIVE_TASKS);
 }
 
 static void read_task(void) {
     static uint8_t image[ZANGJULF_IMAGE];
     uint64_t serials[ZANGJULF_DATAGRAMS];
     struct zangjulf_image found;
-    uint8_t task = (uint8_t)below(ZANGJULF_TASKS);
-    COUNTED(READ, zangjulf_read(&line, task, image, sizeof image, serials, ZANGJULF_DATAGRAMS, &found));
+    uint8_t task = (uint8_t)below(ZANGJULF_TASKS), answer;
+    COUNTED(READ, answer = zangjulf_read(&line, task, image, sizeof image, serials, ZANGJULF_DATAGRAMS, &found));
+    if (answer) give_up("a read");
 }
 
 /* A task's thread views and posts. */
 static void use_seat(void) {
     static uint8_t image[ZANGJULF_IMAGE], bytes[ZANGJULF_IMAGE];
-    uint64_t serials[ZANGJULF_DATAGRAMS];
+    uint64_t serials[ZANGJULF_DATAGRAMS], number;
     struct zangjulf_view view;
-    uint8_t task = (uint8_t)below(ZANGJULF_TASKS);
-    COUNTED(SEAT_VIEW, zangjulf_seat_view(&seats[task], image, sizeof image, serials, ZANGJULF_DATAGRAMS, &view));
-    COUNTED(SEAT_POST, zangjulf_seat_post(&seats[task], view.epoch, bytes, view.outputs));
+    uint8_t task = (uint8_t)below(ZANGJULF_TASKS), answer;
+    COUNTED(SEAT_VIEW, answer = zangjulf_seat_view(&seats[task], image, sizeof image, serials, ZANGJULF_DATAGRAMS, &view));
+    if (answer) give_up("a view");
+    COUNTED(SEAT_POST, answer = zangjulf_seat_post(&seats[task], view.epoch, bytes, view.outputs, &number));
+    if (answer) give_up("a seat's post");
 }
 
 static void show_and_take(void) {
     struct zangjulf_taken taken;
-    if (below(2)) COUNTED(SHOW, zangjulf_show(&line));
-    if (below(2)) COUNTED(TAKE_POSTS, zangjulf_take_posts(&line, &taken));
+    uint8_t answer = ZANGJULF_DONE;
+    if (below(2)) COUNTED(SHOW, answer = zangjulf_show(&line));
+    if (!answer && below(2)) COUNTED(TAKE_POSTS, answer = zangjulf_take_posts(&line, &taken));
+    if (answer) give_up("a showing or a taking");
 }
 
 /* Slaves that were switched off owe their blocks. */
-static void forget(void) {
-    for (uint32_t left = 1 + below(5); left > 0; left--) zangjulf_forget(&line, (uint16_t)(1001 + below(SLAVES)));
-    if (below(2)) send_tasks(); /* refused, since blocks are owed */
+static void lose(void) {
+    for (uint32_t left = 1 + below(5); left > 0; left--)
+        if (zangjulf_slave_lost(&line, (uint16_t)(1001 + below(SLAVES)))) give_up("a slave that isn't there");
+    if (below(2)) send_tasks(); /* refused, since tasks wait */
     write_blocks(true);
 }
 
@@ -269,7 +279,7 @@ static void one_event(void) {
         case 3: use_seat(); break;
         case 4: case 5: show_and_take(); break;
         case 6: COUNTED(NOTHING, (void)0); break;
-        case 7: if (below(3) == 0) forget(); break;
+        case 7: if (below(3) == 0) lose(); break;
         default: arrive();
     }
 }

@@ -19,9 +19,10 @@ static size_t given(void) {
 int main(void) {
     struct zangjulf line = {0};
     struct zangjulf_seat seat = {0};
+    const struct zangjulf_options options = {sizeof options, 0};
     uint8_t over_limit;
     size_t none = given();
-    if (zangjulf_open(&line, (const uint8_t *)PROJECT, sizeof PROJECT - 1, 0, &over_limit)) return 1;
+    if (zangjulf_open(&line, &options, (const uint8_t *)PROJECT, sizeof PROJECT - 1, &over_limit)) return 1;
     size_t open = given();
     if (zangjulf_seat_open(&line, 0, &seat)) return 1;
     printf("a line of one slave: %zu bytes; a seat: %zu more\n", open - none, given() - open);

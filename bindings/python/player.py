@@ -13,15 +13,17 @@ NUMBER = re.compile(r"([0-9]{1,20})|0x([0-9A-Fa-f]{1,16})")
 LAST_TASK = 7
 #: the most posts of a task that wait, and the most bytes that are read of a slave's memory at once
 WAITING, MOST_PEEKED = 4, 1486
-WORDS = {
-    zangjulf.Arrived.WRITE_DONE: "write done", zangjulf.Arrived.WRITE_MISSED: "write missed", zangjulf.Arrived.STALE: "stale",
-}
-EDITS = ("connect", "disconnect", "remap", "move")
+#: the commands of edits, and the calls that carry them out
+EDITS = {"connect": "connect", "disconnect": "disconnect", "remap": "remap", "move": "move_area"}
 LOOKS = ("layout", "regs", "show", "place", "read", "view", "peek", "scan")
 COMMANDS = {*EDITS, *LOOKS, "write", "send", "arrive", "post", "take", "name", "program", "cycle", "poke", "declare"}
 #: where a frame of one datagram has its command, station address, data of two bytes, and their working counter
 COMMAND, STATION, DATA, COUNTER = 16, slice(18, 20), slice(26, 28), slice(28, 30)
 FPWR, STATION_REGISTER = 5, slice(0x10, 0x12)
+
+
+class Unprogrammed(Exception):
+    """The program sends no task while a register block is owed: how many are."""
 
 
 class Player:
@@ -49,7 +51,9 @@ class Player:
         except zangjulf.ProjectFault as fault:
             return [project_fault("declare", fault)]
         except zangjulf.Fault as fault:
-            return [f"refused {fault.number} {type(fault).__name__}" + (f" {fault.detail}" if fault.number in (12, 17) else "")]
+            return [f"refused {fault.number} {type(fault).__name__}" + (f" {fault.detail}" if fault.number == 12 else "")]
+        except Unprogrammed as owed:
+            return [f"refused 17 Unprogrammed {owed}"]
         except TypeError as error:
             raise ValueError(name) from error
 
@@ -64,7 +68,7 @@ class Player:
         """The line of an edit, which begins an epoch. What it would cost is asked before it is carried out."""
         if name == "remap":
             arguments = (*arguments[:2], arguments[2:])
-        call = getattr(self.line, name)
+        call = getattr(self.line, EDITS.get(name, name))
         cost = call(*arguments, asks=True)
         if not asks:
             assert cost == call(*arguments), "an edit does what its cost says"
@@ -94,7 +98,7 @@ class Player:
         for task in range(LAST_TASK + 1):
             datagrams = found(lambda number: self.line.datagram(task, number))
             if datagrams:
-                yield f"task {task} parts {' '.join(map(str, self.line.part(task)))}"
+                yield f"task {task} parts {' '.join(map(str, self.line.image_sizes(task)))}"
             for place, it in enumerate(datagrams):
                 yield f"datagram {place} address {it.address:#010x} length {it.length} expected {it.expected}"
 
@@ -118,17 +122,20 @@ class Player:
         return [f"frame {self.line.next_serial}: {frame.hex()}" if frame else "none"]
 
     def sent(self, tasks):
-        """The frames in which tasks are sent. None is sent while a register block is owed."""
+        """The frames in which tasks are sent, and the first one's serial. None is sent while a register block is owed. The program doesn't
+        wait for slaves outside the line: they are unplugged."""
         if not tasks or len(set(tasks)) < len(tasks):
             raise ValueError("send")
         check_tasks(*tasks)
         if self.line.owed:
-            raise zangjulf.Unprogrammed(self.line.owed)
+            raise Unprogrammed(self.line.owed)
+        for station in {station for task in tasks for station in self.line.held_by(task)}:
+            self.line.unplugged(station)
         return self.line.send(*tasks)
 
     def send(self, *tasks):
-        serial = self.line.next_serial
-        return [f"sent {number}: {frame.hex()}" for number, frame in enumerate(self.sent(tasks), serial)] or ["no frame"]
+        serial, frames = self.sent(tasks)
+        return [f"sent {number}: {frame.hex()}" for number, frame in enumerate(frames, serial)] or ["no frame"]
 
     def write(self):
         serial = self.line.next_serial
@@ -148,7 +155,8 @@ class Player:
                 lines.append(f"wrong count {it.expected} {it.got}")
             else:
                 lines.append("stale")
-        return [WORDS[arrival.answers]] if arrival.answers in WORDS else lines
+        lines += ["write done" if it.kind is zangjulf.BlockOutcomeKind.WRITTEN else "write missed" for it in arrival.blocks]
+        return ["stale"] if arrival.answers is zangjulf.Arrived.STALE else lines
 
     def read(self, task):
         check_tasks(task)
@@ -160,7 +168,7 @@ class Player:
     def post(self, task_word, *settings):
         task = number(task_word)
         check_tasks(task)
-        outputs = bytearray(self.line.part(task).outputs)
+        outputs = bytearray(self.line.image_sizes(task).outputs)
         for variable, value in (map(number, setting.split("=")) for setting in settings):
             it = self.line.place(variable)
             wrong = ["NoSuchVariable"] if it is None else [
@@ -207,7 +215,7 @@ class Player:
         return [f"written {done} owed {self.line.owed}"]
 
     def cycle(self, *tasks):
-        backs = [self.passed(frame) for frame in self.sent(tasks)]
+        backs = [self.passed(frame) for frame in self.sent(tasks).frames]
         return [line for back in backs for line in self.arrived(back)] or ["no frame"]
 
     def memory(self, station, address, size):

@@ -28,8 +28,7 @@ def faults_are_those_of_the_header():
     header = Path(__file__).resolve().parents[2] / "include/zangjulf.h"
     listed = re.findall(r'ANSWER\((\w+), (\d+), "(.*)"\)', header.read_text(encoding="utf-8"))
     answers = {int(number): (name, text) for name, number, text in listed}
-    for done in (0, 101, 102, 103, 104):
-        del answers[done]
+    del answers[0]  # done
     assert set(answers) == set(zangjulf.FAULTS)
     for number, fault in zangjulf.FAULTS.items():
         name, text = answers[number]
@@ -61,20 +60,19 @@ def refusals(text):
     with zangjulf.Line(text) as line:
         for copied in (copy.copy, copy.deepcopy, pickle.dumps):
             raises(TypeError, copied, line)
-        assert raises(zangjulf.Unprogrammed, line.send, 0).detail == 12
+        # every FMMU is unknown: task 0 waits for its four sync managers' blocks and all six FMMUs'
+        assert raises(zangjulf.Waits, line.send, 0).detail == zangjulf.Waiting(0, 10, 0)
         assert isinstance(raises(zangjulf.Short, line.arrive, b""), zangjulf.FrameFault)
         raises(zangjulf.NotPresent, line.disconnect, 100)
-        raises(zangjulf.IsInput, line.put_value, 12, 1, bytearray(14))
-        raises(TypeError, line.put_value, 2, 1, bytes(14))
+        raises(zangjulf.IsInput, line.put_value, 12, 0, 1, bytearray(14))
+        raises(zangjulf.StalePost, line.put_value, 2, 1, 1, bytearray(14))
+        raises(zangjulf.StalePost, line.value, 12, 1, bytes(26))
+        raises(TypeError, line.put_value, 2, 0, 1, bytes(14))
         raises(ValueError, line.place, -1)
-        raises(ValueError, line.part, 256)
-        assert line.next_change() is None
-    with zangjulf.Line(text, changes=1) as line:
-        line.connect(100)
-        raises(zangjulf.ChangesFull, line.disconnect, 100)
-        raises(zangjulf.ChangesFull, line.send, 0)
-        assert line.changes() == [zangjulf.Swapped()]
-        assert raises(zangjulf.Unprogrammed, line.send, 0).detail
+        raises(ValueError, line.image_sizes, 256)
+        assert line.places([2, 101]) == {2: line.place(2)} and line.places([]) == {}
+    raises(zangjulf.Misused, zangjulf.Line, text, 65)
+    raises(ValueError, zangjulf.Line, text, -1)
     raises(zangjulf.Closed, lambda: line.epoch)
     raises(zangjulf.Misused, zangjulf.get_bits, b"", 0, 1)
     for count in (0, 17):
@@ -88,39 +86,53 @@ def refusals(text):
 def seats(text):
     line = zangjulf.Line(text)
     raises(zangjulf.NoSuchTask, line.seat, 8)
+    raises(zangjulf.Misused, line.look, 0, 1)
     seat = line.seat(1)
     for copied in (copy.copy, copy.deepcopy, pickle.dumps):
         raises(TypeError, copied, seat)
-    assert seat.view() == zangjulf.View(0, 0, b"", 0, {}) and seat.outputs() == b""
+    open_line, no_data = zangjulf.LineState.OPEN, zangjulf.State.NO_DATA
+    assert seat.view() == zangjulf.View(1, 0, 0, b"\0\0", 1, [None], 0, no_data, 0, False, open_line) and seat.outputs() == b"\0"
     line.post(1, 0, b"\5")
     line.show()
-    assert seat.view() == zangjulf.View(0, 0, b"\0\0", 1, {})
+    assert seat.view() == zangjulf.View(2, 0, 0, b"\0\0", 1, [None], 0, no_data, 0, False, open_line)
     outputs = seat.outputs()
     assert outputs == b"\5"
     raises(zangjulf.StalePost, seat.post, 1, outputs)
     raises(zangjulf.PostLength, seat.post, 0, b"")
     raises(ValueError, seat.post, -1, outputs)
-    for value in range(4):
-        seat.post(0, bytes([value]))
-    raises(zangjulf.NoSpare, seat.post, 0, outputs)
-    assert line.take_posts() == zangjulf.Taken([1], [])
-    seat.post(0, outputs)
+    assert [seat.post(0, bytes([value])) for value in range(9)] == list(range(1, 10))
+    assert line.take_posts() == zangjulf.Taken([1], []) and line.take_posts() == zangjulf.Taken([], [])
+    assert seat.post(0, outputs) == 10
     line.connect(102)
     assert line.take_posts() == zangjulf.Taken([1], []), "the touch probe is in task 0"
-    seat.post(0, outputs)
+    seat.post(0, b"\6")
     line.connect(100)
     assert line.take_posts() == zangjulf.Taken([], [1])
-    other = line.seat(1)
-    raises(zangjulf.Closed, seat.post, 0, outputs)
     line.show()
-    assert seat.view().epoch == 0 and other.view()[:2] == (2, 2) and other.outputs()[0] == 5
+    view = seat.view()
+    assert (view.taken, view.is_refused, view.epoch, view.task_epoch) == (11, True, 2, 2) and seat.outputs()[0] == 5
+    other = line.seat(1)
+    assert seat.view().line is zangjulf.LineState.REPLACED
+    raises(zangjulf.Closed, seat.post, 2, seat.outputs())
+    assert other.view().showing == 1 and other.outputs()[0] == 5
     line.close()
     raises(zangjulf.Closed, line.show)
-    assert other.view().epoch == 2
+    assert (other.view().epoch, other.view().line) == (2, zangjulf.LineState.CLOSED)
     raises(zangjulf.Closed, other.post, 2, other.outputs())
     with seat, other:
         pass
     raises(zangjulf.Closed, seat.view)
+
+
+def seats_that_only_look(text):
+    """As many as the line was opened for, each with its number, of any task."""
+    with zangjulf.Line(text, lookers=2) as line, line.look(0, 1) as first, line.look(1, 1) as second:
+        raises(zangjulf.Misused, line.look, 2, 1)
+        line.post(1, 0, b"\5")
+        line.show()
+        assert [look.view().showing for look in (first, second)] == [2, 2] and first.outputs() == second.outputs() == b"\5"
+        with line.look(0, 0) as next_one:
+            assert first.view().line is zangjulf.LineState.REPLACED and next_one.view().outputs == 14
 
 
 def tasks_wait(text):
@@ -136,13 +148,13 @@ def tasks_wait(text):
 
         assert line.ready == [] and line.held_by(7) == [1002, 1003, 1004] and line.held_by(8) == []
         assert line.write_all(pass_frame) and line.ready == list(range(8))
-        line.connect(100)
-        assert line.ready == [] and line.held_by(0) == [2001] and raises(zangjulf.Waits, line.send_ready, 1, 0).detail == 1
+        assert line.connect(100).waits == (1,)
+        assert line.ready == [] and line.held_by(0) == [2001] and raises(zangjulf.Waits, line.send, 1, 0).detail.task == 1
         line.cleared(2001)
         assert line.ready == [0, 2, 3, 4, 5, 6, 7] and line.held_by(1) == [1004, 2001]
-        assert [len(line.send_ready(0))] == [1] and raises(zangjulf.Waits, line.send_ready, 0, 1).detail == 1
-        raises(zangjulf.NoSuchTask, line.send_ready, 8)
-        raises(zangjulf.Misused, line.send_ready)
+        assert len(line.send(0).frames) == 1 and raises(zangjulf.Waits, line.send, 0, 1).detail == zangjulf.Waiting(1, 5, 0)
+        raises(zangjulf.NoSuchTask, line.send, 8)
+        raises(zangjulf.Misused, line.send)
         raises(zangjulf.AlreadyPresent, line.unplugged, 2001)
         raises(zangjulf.UnknownStation, line.unplugged, 1)
         raises(zangjulf.UnknownStation, line.cleared, 1)
@@ -151,7 +163,8 @@ def tasks_wait(text):
         line.write_all(pass_frame)
         assert line.ready == [0, 2, 3, 4, 5, 6, 7] and line.held_by(1) == [2001]
         line.unplugged(2001)
-        assert line.ready == list(range(8)) and len(line.send_ready(0, 1)) == 1
+        sent = line.send(0, 1)
+        assert line.ready == list(range(8)) and len(sent.frames) == 1 and sent.first_serial + 1 == line.next_serial
 
 
 def writing_ends(text):
@@ -185,10 +198,7 @@ def a_task_has_a_seat(text):
                 view = seat.view()
                 outputs = seat.outputs()
                 viewed.append(outputs[0])
-                try:
-                    seat.post(view.epoch, bytes([min(outputs[0] + 1, 15)]))
-                except zangjulf.NoSpare:
-                    pass
+                seat.post(view.epoch, bytes([min(outputs[0] + 1, 15)]))
 
         task = threading.Thread(target=work)
         task.start()
@@ -204,6 +214,7 @@ for layout in sys.argv[2:]:
     structs_are_those_of_the_header(Path(layout))
 refusals(project)
 seats(project)
+seats_that_only_look(project)
 tasks_wait(project)
 writing_ends(project)
 a_task_has_a_seat(project)

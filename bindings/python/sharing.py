@@ -69,20 +69,20 @@ def each_thread_gets_its_own_frames(text):
         first, serials = line.next_serial, [[] for _ in range(THREADS)]
 
         def work(task):
-            datagram, part, epoch = line.datagram(task, 0), line.part(task), line.epoch
+            datagram, sizes, epoch = line.datagram(task, 0), line.image_sizes(task), line.epoch
             for turn in range(SENDINGS // THREADS):
                 outputs = bytes((turn * 7 + task * 61 + at) % 256 & bits for at, bits in enumerate(VARIABLES[task]))
                 line.post(task, epoch, outputs)
-                (frame,) = line.send(task)
-                serial = int.from_bytes(frame[7:12], "big")
-                data = outputs + bytes(part.inputs)
+                serial, (frame,) = line.send(task)
+                data = outputs + bytes(sizes.inputs)
                 assert frame == lrw_frame(serial, datagram.address, data), f"task {task} gets another frame"
                 assert line.preview(task, 0)[26 : 26 + len(data)] == data, f"task {task} sees another preview"
-                inputs = outputs + bytes((turn + task) % 256 for _ in range(part.inputs))
+                inputs = outputs + bytes((turn + task) % 256 for _ in range(sizes.inputs))
                 arrival = line.arrive(lrw_frame(serial, datagram.address, inputs, datagram.expected))
                 outcome = (zangjulf.OutcomeKind.INPUTS, task, 0, datagram.expected, datagram.expected, inputs)
                 assert arrival.serial == serial and arrival.outcomes == [outcome], f"task {task} gets another outcome"
-                assert line.read(task) == zangjulf.Image(epoch, changed[task], inputs, [serial]), f"task {task} reads another image"
+                image = zangjulf.Image(epoch, changed[task], inputs, [serial], serial, zangjulf.State.COMPLETE)
+                assert line.read(task) == image, f"task {task} reads another image"
                 serials[task].append(serial)
 
         in_threads(THREADS, work)

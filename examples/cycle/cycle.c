@@ -1,48 +1,40 @@
-/* A cycle over a line that changes while it runs, to copy from. Two tasks post, are sent and read; frames are lost; the gripper
- * comes, closes, and leaves the line with its FMMUs switched off, while it stays on the wire; another time it comes and doesn't
- * answer, and is given up. Each answer is looked at, and each position.
+/* A cycle over a line that changes while it runs, to copy from. Frames are lost; the gripper comes, closes, and leaves the line with its
+ * FMMUs switched off, while it stays on the wire; another time it loses contact once it is in the line, and is given up. The gripper has
+ * a task of its own, which alone waits for it: axis X is sent to a target in each cycle. Each answer is looked at, and each position.
  *
  *     cycle PROJECT
  *
- * PROJECT is examples/tool_changer.toml, whose gripper is in task 1. The network is simulated: `network` is what a master of one's
- * own has in its place, and `main` would wait for the next millisecond in each turn. */
+ * PROJECT is examples/own_tasks.toml. The network is simulated: `network` is what a master of one's own has in its place, and `main`
+ * would wait for the next millisecond in each turn. */
 #include <stdio.h>
 #include <stdlib.h>
 #include <string.h>
 
 #include "zangjulf.h"
 
-#define MOTION 0           /* the task of both axes */
-#define SLOW 1             /* the task of the machine's inputs and outputs, and of the gripper */
-#define TARGET_X 2         /* variables; of a project with names `tools/names --c` prints such lines */
-#define POSITION_X 12
-#define CLOSE 101
-#define CLOSED 111
+enum { MOTION, MACHINE, TOOL, TASKS }; /* of the axes, of the machine's inputs and outputs, of the gripper */
+enum { TARGET_X = 2, POSITION_X = 12, CLOSE = 101, CLOSED = 111 }; /* variables; `tools/names --c` prints such lines */
 #define GRIPPER 100        /* the tool's alias */
 #define GRIPPER_POSITION 4 /* it is the last slave on the wire */
 #define GRIPPER_AREAS 2    /* each has an FMMU */
-#define MOST_MISSES 3      /* so many writes in a row that aren't taken, and the tool is given up */
-
-static const uint8_t TASKS[] = {MOTION, SLOW};
+#define MOST_MISSES 3      /* so many frames of register writes that bring nothing, and the tool is given up */
 
 static struct zangjulf line;
-static uint8_t frames[ZANGJULF_FRAMES];
-static uint64_t first_serial; /* of the frames of the present cycle */
 static bool has_gripper;
-static unsigned cycles, lost, lost_writes, wrong, answered, closed, given_up;
+static unsigned cycles, lost, misses, answered, closed, given_up;
 
-/* Goes on where a call is done. The program doesn't know how to go on after another answer. */
+/* Goes on if a call is done. The program doesn't know how to go on after another answer. */
 static void must(const char *call, uint8_t answer) {
     if (answer == ZANGJULF_DONE) return;
-    printf("cycle %u: %s: %u %s: %s\n", cycles, call, answer, zangjulf_name(answer), zangjulf_text(answer));
-    zangjulf_close(&line);
+    printf("cycle %u: %s: %s: %s\n", cycles, call, zangjulf_name(answer), zangjulf_text(answer));
+    zangjulf_free(&line);
     exit(1);
 }
 
 /* --- the simulated network ------------------------------------------------------------------------------------------------- */
 
 /* What a slave does between two frames: it moves so many bytes of its outputs to its inputs. An axis is then where it was sent,
- * and the gripper is closed where it was to close. */
+ * and the gripper is closed if it was to close. */
 #define SLAVES 5
 static const struct {
     uint16_t station, outputs, inputs, bytes;
@@ -50,15 +42,15 @@ static const struct {
     {1001, 0, 0, 0}, {1002, 0x1102, 0x1182, 4}, {1003, 0x1104, 0x1182, 4}, {1004, 0, 0, 0}, {2001, 0x1100, 0x1180, 1},
 };
 static uint8_t memory[SLAVES][ZANGJULF_SLAVE_MEMORY];
-static int answering = SLAVES - 1; /* the gripper is on the wire where this is SLAVES */
+static int answering = SLAVES - 1; /* the gripper is on the wire if this is SLAVES */
 
-/* A frame goes through the slaves and comes back in its place, with inputs as they were before it. False where it is lost, as
- * every tenth frame is. */
-static bool network(uint8_t *frame) {
+/* A frame goes through the slaves and comes back in its place, with inputs as they were before it. False if it is lost, as every
+ * tenth frame is. */
+static bool network(uint8_t *frame, size_t size) {
     static unsigned sent;
-    if (++sent % 10 == 0) return false;
+    if (++sent % 10 == 0) return lost++, false;
     for (int i = 0; i < answering; i++) {
-        must("zangjulf_slave_process", zangjulf_slave_process(memory[i], sizeof memory[i], frame, zangjulf_frame_size(frame)));
+        must("zangjulf_slave_process", zangjulf_slave_process(memory[i], sizeof memory[i], frame, size));
         memcpy(&memory[i][SLAVE[i].inputs], &memory[i][SLAVE[i].outputs], SLAVE[i].bytes);
     }
     return true;
@@ -68,118 +60,101 @@ static bool network(uint8_t *frame) {
 
 /* Gives the slave at a position its station address. It takes no register block before. */
 static void name_slave(uint16_t position) {
-    uint8_t frame[60];
+    uint8_t frame[ZANGJULF_SHORTEST_FRAME];
     size_t size;
-    for (int misses = 0; misses < MOST_MISSES; misses++) {
-        must("zangjulf_station_write", zangjulf_station_write(position, SLAVE[position].station, frame, sizeof frame, &size));
-        if (network(frame) && frame[28] == 1) return; /* the working counter */
-    }
+    do must("zangjulf_station_write", zangjulf_station_write(position, SLAVE[position].station, frame, sizeof frame, &size));
+    while (!network(frame, size) || frame[28] != 1); /* the working counter */
 }
 
-/* Whether a frame that came in is passed over: one that can't be read is somebody else's, and one that answers nothing comes late. */
-static bool is_passed_over(uint8_t answer) {
-    return answer == ZANGJULF_STALE || (answer >= ZANGJULF_SHORT && answer <= ZANGJULF_INDEX_MISMATCH);
-}
-
-/* Writes the register blocks that are owed, each in a round trip of its own. 0 where none is left, or the station address of a
- * slave that doesn't answer: three writes in a row come back untaken, or not at all. */
-static uint16_t write_blocks(void) {
-    uint8_t frame[ZANGJULF_FRAME];
-    struct zangjulf_write write = {0};
-    struct zangjulf_arrival arrival;
-    struct zangjulf_outcome outcome; /* a register write has none */
-    for (int misses = 0; misses < MOST_MISSES;) {
-        uint8_t answer = zangjulf_next_write(&line, frame, sizeof frame, &write);
-        if (answer == ZANGJULF_NOTHING_OWED) return 0;
-        must("zangjulf_next_write", answer);
-        misses++;
-        if (!network(frame)) {
-            lost_writes++;
-            continue;
-        }
-        answer = zangjulf_arrive(&line, frame, write.size, &outcome, 1, &arrival);
-        if (answer == ZANGJULF_WRITE_DONE) misses = 0;
-        else if (answer != ZANGJULF_WRITE_MISSED && !is_passed_over(answer)) must("zangjulf_arrive", answer);
-    }
-    return write.block.station;
-}
-
-/* Switches off the FMMUs of the gripper. A slave that left the line and stays on the wire would take the outputs of others. */
+/* Sets the gripper's FMMUs to zeros. A slave that comes may have others in them, and one that stays on the wire keeps them. */
 static void switch_off_gripper(void) {
     uint8_t frame[ZANGJULF_FRAME];
     size_t size;
-    for (int misses = 0; misses < MOST_MISSES; misses++) {
-        must("zangjulf_fmmu_off", zangjulf_fmmu_off(SLAVE[GRIPPER_POSITION].station, GRIPPER_AREAS, frame, sizeof frame, &size));
-        if (network(frame) && frame[26 + 16 * GRIPPER_AREAS] == 1) return; /* the working counter */
-    }
-    must("a gripper that stays on the wire, and may take outputs", ZANGJULF_MISUSED);
+    do must("zangjulf_fmmu_off", zangjulf_fmmu_off(SLAVE[GRIPPER_POSITION].station, GRIPPER_AREAS, frame, sizeof frame, &size));
+    while (!network(frame, size) || frame[26 + 16 * GRIPPER_AREAS] != 1); /* the working counter */
 }
 
-/* The gripper's group joins the line or leaves it. What is owed then is written in the next cycle. */
-static void connect_gripper(bool joins) {
+/* The gripper joins the line. Once it is cleared, its own task waits for its register blocks, and no other one. */
+static void gripper_comes(void) {
     struct zangjulf_cost cost;
-    if (joins) must("zangjulf_connect", zangjulf_connect(&line, GRIPPER, false, &cost));
-    else must("zangjulf_disconnect", zangjulf_disconnect(&line, GRIPPER, false, &cost));
-    if (joins) name_slave(GRIPPER_POSITION);
-    has_gripper = joins;
+    name_slave(GRIPPER_POSITION);
+    switch_off_gripper();
+    must("zangjulf_connect", zangjulf_connect(&line, GRIPPER, false, &cost));
+    must("zangjulf_cleared", zangjulf_cleared(&line, SLAVE[GRIPPER_POSITION].station));
+    if (cost.waits != 1 << TOOL) must("other tasks than the gripper's wait", ZANGJULF_WAITS);
+    has_gripper = true;
 }
 
-/* A slave doesn't answer. If it is the gripper, its group leaves the line, so that the axes go on: it is off the wire, and an operator
- * unplugs one that isn't before another tool comes. The machine doesn't run without any other slave. */
-static void give_up(uint16_t station) {
-    if (station != SLAVE[GRIPPER_POSITION].station) must("a slave that doesn't answer", ZANGJULF_WRITE_MISSED);
-    connect_gripper(false);
-    given_up++;
+/* The gripper leaves the line: it stays on the wire, or is off it. */
+static void gripper_goes(bool stays) {
+    struct zangjulf_cost cost;
+    uint16_t station = SLAVE[GRIPPER_POSITION].station;
+    if (stays) switch_off_gripper();
+    must("zangjulf_disconnect", zangjulf_disconnect(&line, GRIPPER, false, &cost));
+    if (stays) must("zangjulf_cleared", zangjulf_cleared(&line, station));
+    else must("zangjulf_unplugged", zangjulf_unplugged(&line, station));
+    has_gripper = false;
+}
+
+/* A frame that came in is handed in; how many of its datagrams came back as they should. One that can't be read is somebody else's, one
+ * that is stale comes late, and a task whose datagram has a wrong counter goes on with what it read before. */
+static unsigned hand_in(const uint8_t *frame, size_t size) {
+    struct zangjulf_outcome outcomes[ZANGJULF_OUTCOMES];
+    struct zangjulf_arrival arrival;
+    unsigned good = 0;
+    uint8_t answer = zangjulf_arrive(&line, frame, size, outcomes, ZANGJULF_OUTCOMES, &arrival);
+    if (answer >= ZANGJULF_SHORT && answer <= ZANGJULF_INDEX_MISMATCH) return 0;
+    must("zangjulf_arrive", answer);
+    for (int i = 0; i < arrival.datagrams; i++) good += outcomes[i].kind == ZANGJULF_INPUTS || outcomes[i].kind == ZANGJULF_BLOCK_WRITTEN;
+    return good;
+}
+
+/* Writes owed register blocks in one frame; those that are not taken are sent again in the next cycle. A gripper that takes none is
+ * given up. The machine does not run without any other slave. */
+static void write_blocks(void) {
+    uint8_t frame[ZANGJULF_FRAME];
+    struct zangjulf_writes writes;
+    uint8_t answer = zangjulf_next_writes(&line, frame, sizeof frame, &writes);
+    if (answer == ZANGJULF_NOTHING_OWED) return;
+    must("zangjulf_next_writes", answer);
+    if (network(frame, writes.size) && hand_in(frame, writes.size)) misses = 0;
+    else if (++misses == MOST_MISSES && has_gripper) gripper_goes(false), given_up++, misses = 0;
 }
 
 /* A task posts a value for one of its outputs, and zeros for all others. */
 static void post(uint8_t task, uint32_t variable, uint64_t value) {
-    static uint8_t outputs[ZANGJULF_IMAGE];
-    struct zangjulf_part part;
+    uint8_t outputs[ZANGJULF_IMAGE] = {0};
+    struct zangjulf_image_sizes sizes;
     uint32_t epoch;
-    must("zangjulf_part", zangjulf_part(&line, task, &part));
     must("zangjulf_epoch", zangjulf_epoch(&line, &epoch));
-    memset(outputs, 0, part.outputs);
-    must("zangjulf_put_value", zangjulf_put_value(&line, variable, value, outputs, part.outputs));
-    must("zangjulf_post", zangjulf_post(&line, task, epoch, outputs, part.outputs));
+    must("zangjulf_image_sizes", zangjulf_image_sizes(&line, task, &sizes));
+    must("zangjulf_put_value", zangjulf_put_value(&line, variable, epoch, value, outputs, sizes.outputs));
+    must("zangjulf_post", zangjulf_post(&line, task, epoch, outputs, sizes.outputs));
 }
 
-/* A frame that came in is handed in. It is done where it answers tasks, but each datagram has its own outcome: one that a slave
- * didn't serve has a wrong counter, and its task goes on with what it read before. */
-static void hand_in(const uint8_t *frame) {
-    struct zangjulf_outcome outcomes[ZANGJULF_OUTCOMES];
-    struct zangjulf_arrival arrival;
-    uint8_t answer = zangjulf_arrive(&line, frame, zangjulf_frame_size(frame), outcomes, ZANGJULF_OUTCOMES, &arrival);
-    if (is_passed_over(answer)) return;
-    must("zangjulf_arrive", answer);
-    for (size_t i = 0; i < arrival.datagrams; i++) wrong += outcomes[i].kind == ZANGJULF_WRONG_COUNT;
-}
-
-/* The value of an input, if a frame of the present cycle brought it. */
+/* The value of an input, if all data of its task are of the last sending. */
 static bool read_value(uint8_t task, uint32_t variable, uint64_t *value) {
     static uint8_t data[ZANGJULF_IMAGE];
-    uint64_t serials[ZANGJULF_DATAGRAMS];
     struct zangjulf_image image;
-    struct zangjulf_place place;
-    must("zangjulf_read", zangjulf_read(&line, task, data, sizeof data, serials, ZANGJULF_DATAGRAMS, &image));
-    must("zangjulf_place", zangjulf_place(&line, variable, &place));
-    if (!(image.has >> place.datagram & 1) || serials[place.datagram] < first_serial) return false;
-    must("zangjulf_get_value", zangjulf_get_value(&line, variable, data, image.size, value));
+    must("zangjulf_read", zangjulf_read(&line, task, data, sizeof data, NULL, 0, &image));
+    if (image.state != ZANGJULF_COMPLETE) return false;
+    must("zangjulf_get_value", zangjulf_get_value(&line, variable, image.epoch, data, image.size, value));
     return true;
 }
 
-/* One cycle: axis X is sent to a target. Where it was before comes back, or nothing where the frame is lost. */
-static bool cycle(uint64_t target, uint64_t *position) {
+/* One cycle: the tasks that are ready are sent, what comes back is handed in, and owed register blocks are written. */
+static void cycle(void) {
+    static uint8_t frames[ZANGJULF_FRAMES];
+    struct zangjulf_frame table[ZANGJULF_FRAME_COUNT];
     struct zangjulf_sent sent;
-    for (uint16_t slave; (slave = write_blocks());) give_up(slave); /* register blocks that the line lacks */
-    post(MOTION, TARGET_X, target);                                 /* zangjulf_put_value, zangjulf_post */
-    must("zangjulf_next_serial", zangjulf_next_serial(&line, &first_serial));
-    must("zangjulf_send", zangjulf_send(&line, TASKS, sizeof TASKS, frames, sizeof frames, &sent));
-    for (uint8_t *frame = frames; frame < frames + sent.size; frame += zangjulf_frame_size(frame)) {
-        if (network(frame)) hand_in(frame); /* zangjulf_arrive */
-        else lost++;
-    }
-    return read_value(MOTION, POSITION_X, position); /* zangjulf_read, zangjulf_get_value */
+    uint8_t ready, tasks[TASKS], count = 0;
+    must("zangjulf_ready", zangjulf_ready(&line, &ready));
+    for (uint8_t task = 0; task < TASKS; task++)
+        if (ready >> task & 1) tasks[count++] = task;
+    must("zangjulf_send", zangjulf_send(&line, tasks, count, frames, sizeof frames, table, ZANGJULF_FRAME_COUNT, &sent));
+    for (uint32_t i = 0; i < sent.frames; i++)
+        if (network(frames + table[i].offset, table[i].size)) hand_in(frames + table[i].offset, table[i].size);
+    write_blocks();
 }
 
 /* --- the machine ----------------------------------------------------------------------------------------------------------- */
@@ -188,43 +163,33 @@ static bool cycle(uint64_t target, uint64_t *position) {
 static void turn(void) {
     static uint64_t reached;
     uint64_t target = reached + 10, position, is_closed;
-    if (has_gripper) post(SLOW, CLOSE, 1);
-    if (!cycle(target, &position)) return;
-    answered++;
+    post(MOTION, TARGET_X, target);
+    if (has_gripper) post(TOOL, CLOSE, 1);
+    cycle();
+    if (!read_value(MOTION, POSITION_X, &position)) return;
     if (position != reached) must("the position of axis X", ZANGJULF_MISUSED);
-    reached = target;
-    if (has_gripper && read_value(SLOW, CLOSED, &is_closed)) closed += is_closed != 0;
-}
-
-static void open_project(const char *name) {
-    static uint8_t text[1 << 16];
-    uint8_t task = 0;
-    FILE *in = fopen(name, "rb");
-    if (!in) {
-        perror(name);
-        exit(2);
-    }
-    size_t size = fread(text, 1, sizeof text, in);
-    fclose(in);
-    must("zangjulf_open", zangjulf_open(&line, text, size, 0, &task));
+    reached = target, answered++;
+    if (has_gripper && read_value(TOOL, CLOSED, &is_closed)) closed += is_closed != 0;
 }
 
 int main(int count, char **words) {
-    if (count != 2 || zangjulf_abi() != ZANGJULF_ABI) {
-        fprintf(stderr, "usage: cycle PROJECT, with a library of binary interface %d\n", ZANGJULF_ABI);
-        return 2;
-    }
-    open_project(words[1]);
+    static uint8_t text[1 << 16];
+    struct zangjulf_options options = {sizeof options, 0};
+    uint8_t task;
+    FILE *in = count == 2 ? fopen(words[1], "rb") : NULL;
+    if (!in || zangjulf_abi() != ZANGJULF_ABI) return 2;
+    must("zangjulf_open", zangjulf_open(&line, &options, text, fread(text, 1, sizeof text, in), &task));
+    fclose(in);
     for (int i = 0; i < SLAVES; i++) must("zangjulf_slave_start", zangjulf_slave_start(memory[i], sizeof memory[i], 0));
     for (uint16_t position = 0; position < GRIPPER_POSITION; position++) name_slave(position);
+    for (uint32_t owed = 1; owed; must("zangjulf_owed", zangjulf_owed(&line, &owed))) write_blocks();
     for (cycles = 0; cycles < 1000; cycles++) {
-        if (cycles == 200) answering = SLAVES, connect_gripper(true);
-        if (cycles == 400) switch_off_gripper(), connect_gripper(false);
-        if (cycles == 600) answering = SLAVES - 1, connect_gripper(true); /* it doesn't answer */
+        if (cycles == 200 || cycles == 600) answering = SLAVES, gripper_comes();
+        if (cycles == 400) gripper_goes(true);
+        if (cycles == 600) answering = SLAVES - 1; /* it loses contact */
         turn();
     }
-    zangjulf_close(&line);
-    printf("cycles %u, lost frames %u, lost writes %u, wrong counters %u, cycles with an answer %u, gripper closed %u, tools given up %u\n",
-           cycles, lost, lost_writes, wrong, answered, closed, given_up);
+    must("zangjulf_close", zangjulf_close(&line));
+    printf("cycles %u, lost frames %u, cycles with an answer %u, gripper closed %u, given up %u\n", cycles, lost, answered, closed, given_up);
     return 0;
 }

@@ -44,13 +44,12 @@ def run(line, it, cycles):
         return receive(it)
 
     def change_tool(comes):
-        if comes:
-            gripper_is_there.value = 1
-            line.connect(GRIPPER)
-        else:  # it stays on the wire, where its FMMUs would take outputs of others
-            came = pass_frame(zangjulf.fmmu_off(GRIPPER_STATION, GRIPPER_AREAS))
-            assert came[26 + 16 * GRIPPER_AREAS] == 1, "the gripper isn't switched off"
-            line.disconnect(GRIPPER)
+        gripper_is_there.value = 1  # it stays on the wire when it goes, where its FMMUs would take outputs of others
+        came = pass_frame(zangjulf.fmmu_off(GRIPPER_STATION, GRIPPER_AREAS))
+        assert came[26 + 16 * GRIPPER_AREAS] == 1, "the gripper isn't switched off"
+        edit = line.connect if comes else line.disconnect
+        edit(GRIPPER)
+        line.cleared(GRIPPER_STATION)
 
     before, edits, longest, start = None, [0], 0, time.monotonic()
     for cycle in range(cycles):
@@ -60,13 +59,12 @@ def run(line, it, cycles):
             change_tool(cycle // RATE % 2 == 1)
             edits.append(time.monotonic() - began)
         assert line.write_all(pass_frame), "a register block isn't taken"
-        posted = bytes(0 if i == 7 else (cycle * 7 + i) % 256 for i in range(line.part(0).outputs))
+        posted = bytes(0 if i == 7 else (cycle * 7 + i) % 256 for i in range(line.image_sizes(0).outputs))
         line.post(0, line.epoch, posted)
-        serial = line.next_serial
         came = [outcome for arrival in line.exchange((0, 1), pass_frame) for outcome in arrival.outcomes]
         assert [it.kind for it in came] == [zangjulf.OutcomeKind.INPUTS] * 2, "a wrong counter or a stale frame"
         image = line.read(0)
-        assert image.serials == [serial], "an older answer"
+        assert image.state is zangjulf.State.COMPLETE, "an older answer"
         assert not cycle or image.data[14:] == before[:12], "an axis reads another value"
         before, longest = posted, max(longest, time.monotonic() - began)
     counters = line.counters(0, 0)

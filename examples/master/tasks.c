@@ -5,8 +5,8 @@
  *
  * Each slave answers with what was put out to it in the frame before. So each image that a task views must be whole: outputs
  * and inputs are each of one posting, and neither ever goes back. The gripper changes neither task: each view has data, and no post
- * is refused. At the end the last post is followed to its input. The memory of the process is printed after a tenth of the cycles and at the end, and doesn't grow. Where no namespace can be made it
- * says so, and ends with status 77.
+ * is refused. A post takes the place of one that waits. At the end the last post is followed to its input. The memory of the process is
+ * printed after a tenth of the cycles and at the end, and doesn't grow. If no namespace can be made it says so, and ends with status 77.
  *
  *     tasks PROJECT CYCLES CYCLES_A_SECOND [CAPTURE]
  *
@@ -37,7 +37,7 @@ struct worker {
     struct zangjulf_view view;
     uint64_t serial;
     uint32_t posted, read;
-    unsigned long views, images, full;
+    unsigned long views, images, posts;
     long longest_step;
 };
 
@@ -79,24 +79,24 @@ static void view(struct worker *worker) {
 }
 
 static void post(struct worker *worker) {
-    uint8_t answer = zangjulf_seat_post(&worker->seat, worker->view.epoch, worker->outputs, worker->view.outputs);
-    if (answer == ZANGJULF_NO_SPARE) worker->full++; /* the owner is late: it has four posts to take */
-    else tool_expect(answer, "a post");
+    uint64_t number;
+    tool_expect(zangjulf_seat_post(&worker->seat, worker->view.epoch, worker->outputs, worker->view.outputs, &number), "a post");
+    if (number != ++worker->posts || worker->view.taken >= number || worker->view.is_refused) fail(worker, "a post has another number, or was refused");
 }
 
-/* Each post has the next number, so what is read and what is put out only rises. */
+/* Each post has the next number, so what is read only rises. */
 static void step_motion(struct worker *worker) {
     view(worker);
     if (worker->view.size != OUTPUTS + INPUTS || worker->view.outputs != OUTPUTS) fail(worker, "an image has another size");
-    uint32_t put_out = number_of(worker, worker->outputs, OUTPUTS);
     uint32_t read = number_of(worker, worker->image + OUTPUTS, INPUTS);
-    if (read < worker->read || put_out < read || worker->posted < put_out) fail(worker, "an input or an output goes back");
+    if (number_of(worker, worker->outputs, OUTPUTS) != worker->posted) fail(worker, "the outputs to begin with are not of the last post");
+    if (read < worker->read || worker->view.taken < read) fail(worker, "an input goes back, or comes before its post was taken");
     worker->read = read;
     write_number(worker->outputs, ++worker->posted);
     post(worker);
 }
 
-/* Counts in its four bits, once the input has answered the last number: it changes them in the outputs that it views, and posts the
+/* Counts in its four bits, once the input has answered the last number: it changes them in the outputs to begin with, and posts the
  * whole. So the input is that number or the one before. */
 static void step_machine(struct worker *worker) {
     view(worker);
@@ -130,8 +130,8 @@ static void cycle(unsigned long number) {
     tool_expect(zangjulf_take_posts(&tool.line, &taken), "posts are taken");
     if (taken.refused) wire_fail("a post is refused");
     size_t size = tool_send(&tool, tasks, number % 4 ? 1 : sizeof tasks, frames, sizeof frames);
-    tool_expect(tool_pass(&tool, frames, size, outcomes, &arrival), "a frame answers nothing");
-    if (!arrival.datagrams || outcomes[0].task != MOTION) wire_fail("the motion task isn't sent");
+    tool_pass(&tool, frames, size, outcomes, &arrival);
+    if (arrival.kind != ZANGJULF_OF_TASKS || outcomes[0].task != MOTION) wire_fail("the motion task isn't sent");
     for (size_t i = 0; i < arrival.datagrams; i++)
         if (outcomes[i].kind != ZANGJULF_INPUTS) wire_fail("a wrong counter");
     tool_expect(zangjulf_show(&tool.line), "an image is shown");
@@ -173,16 +173,16 @@ static void follow(struct worker *motion) {
 }
 
 static void print_counts(const struct worker *worker) {
-    printf("%s: views %lu, new images %lu, answered up to %u, four posts waited %lu times, longest step %ld us\n", worker->name,
-           worker->views, worker->images, worker->read, worker->full, worker->longest_step / 1000);
+    printf("%s: views %lu, new images %lu, posts %lu, answered up to %u, longest step %ld us\n", worker->name,
+           worker->views, worker->images, worker->posts, worker->read, worker->longest_step / 1000);
 }
 
 int main(int count, char **words) {
     static struct worker workers[2];
     pthread_t threads[2];
     if ((count != 4 && count != 5) || atol(words[2]) < 100 || atol(words[3]) < 8) return 2;
-    if (!wire_open(count == 5 ? words[4] : NULL)) {
-        printf("tasks: no network namespace with a pair of devices can be made here\n");
+    if (!wire_open(TOOL_SLAVE, TOOL_SLAVES, count == 5 ? words[4] : NULL)) {
+        printf("tasks: no network namespaces with a pair of devices can be made here\n");
         return 77;
     }
     tool_open(&tool, words[1]);
@@ -200,8 +200,8 @@ int main(int count, char **words) {
     cycle(0);
     follow(&workers[MOTION]);
     wire_close();
-    for (int i = 0; i < 2; i++) print_counts(&workers[i]), zangjulf_seat_close(&workers[i].seat);
-    zangjulf_close(&tool.line);
+    for (int i = 0; i < 2; i++) print_counts(&workers[i]), tool_expect(zangjulf_seat_close(&workers[i].seat), "a seat isn't closed");
+    tool_expect(zangjulf_close(&tool.line), "the line isn't closed");
     printf("cycles %s, tools docked %lu, tools given up %lu, longest change %ld us, memory %ld KiB early, %ld KiB late\n", words[2], tool.docked, tool.given_up,
            tool.longest_change / 1000, early, late);
     return late > early + MOST_GROWTH;

@@ -8,9 +8,11 @@
 #include <stddef.h>
 #include <stdint.h>
 
+#include "wire.h"
 #include "zangjulf.h"
 
 #define GRIPPER 100
+#define GRIPPER_SLAVE 4
 #define GRIPPER_STATION 2001
 #define GRIPPER_AREAS 2 /* each has an FMMU */
 #define GRIPPER_TASK 2
@@ -25,6 +27,10 @@ struct tool {
     long longest_change;
 };
 
+/* The slaves of the project in their order, the gripper last. */
+#define TOOL_SLAVES 5
+extern const struct wire_slave TOOL_SLAVE[TOOL_SLAVES];
+
 /* Opens a project on the wire without the gripper, all register blocks written. */
 void tool_open(struct tool *tool, const char *project);
 
@@ -38,7 +44,7 @@ size_t tool_send(struct tool *tool, const uint8_t *tasks, size_t count, uint8_t 
 void tool_write(struct tool *tool);
 
 /* Sends a frame and hands in what returns. `outcomes` has room for any frame's. */
-uint8_t tool_pass(struct tool *tool, const uint8_t *frame, size_t size, struct zangjulf_outcome *outcomes, struct zangjulf_arrival *arrival);
+void tool_pass(struct tool *tool, const uint8_t *frame, size_t size, struct zangjulf_outcome *outcomes, struct zangjulf_arrival *arrival);
 
 /* Ends the run unless a call is done. */
 void tool_expect(uint8_t answer, const char *what);

@@ -9,10 +9,11 @@ compiled() {
     gcc -std=c11 -g -O1 $warnings "$@" -Iinclude "tools/embed/$caller.c" build/libzangjulf.a -o "$scratch/$caller"
 }
 
-# compiled_fuzz WORDS..: the caller that draws, likewise, over the plain models or those that `model`, `readiness` and `task_epochs` name
+# compiled_fuzz WORDS..: the caller that draws, likewise, over the plain models or those that `model`, `readiness`, `seated` and
+# `task_epochs` name
 compiled_fuzz() {
     compiled fuzz -Itools/embed tools/embed/draws.c tools/embed/growths.c tools/embed/judge.c "${model:-tools/embed/model.c}" \
-        tools/embed/pending.c "${readiness:-tools/embed/readiness.c}" tools/embed/seated.c "${task_epochs:-tools/embed/task_epochs.c}" \
+        "${readiness:-tools/embed/readiness.c}" "${seated:-tools/embed/seated.c}" "${task_epochs:-tools/embed/task_epochs.c}" \
         tools/embed/words.c $wrapped "$@"
 }
 
@@ -40,6 +41,14 @@ seats_at_speed() {
     report_run $? "$label"
 }
 
+# monitor: a thread that looks at a low priority, and is preempted inside a view, where SCHED_FIFO is allowed
+monitor() {
+    compiled monitor -O2 -pthread && timeout 60 "$scratch/monitor" >"$scratch/printed" 2>&1
+    status=$?
+    [ $status -ne 77 ] || { cat "$scratch/printed"; return; }
+    report_run $status "a monitor that is preempted inside a view"
+}
+
 # header: alone, as C11 and as C++17; and a C++ program that asks what it is linked with
 header() {
     echo '#include "zangjulf.h"' >"$scratch/alone.c"
@@ -64,13 +73,14 @@ master() {
     report $? "the example $name isn't built"
 }
 
-# callers_of_seats SHOWS EVERY: callers that do wrong, a line and eight seats that are closed in every so many-th order, and so many
-# images that are shown at full speed
+# callers_of_seats SHOWS EVERY: callers that do wrong, a line and eight seats that are closed in every so many-th order, a monitor that is
+# preempted, and so many images that are shown at full speed
 callers_of_seats() {
     edges seats "C callers of seats that do wrong" -fsanitize=address,undefined
     edges seats "growths refused to a C caller of seats" -DWRAPPED tools/embed/growths.c $wrapped
     compiled closings -fsanitize=address,undefined && timeout 2400 "$scratch/closings" "$2" >"$scratch/printed" 2>&1
     report_run $? "a line and eight seats that are closed"
+    monitor
     seats_at_speed "$1" "tasks at full speed" -O2
     seats_at_speed 100000 "tasks at full speed, under the address sanitizer" -fsanitize=address,undefined
     export TSAN_OPTIONS=suppressions=examples/master/thread_sanitizer.txt
@@ -97,10 +107,10 @@ callers_in_c() {
         report_run $? "$1 drawn calls from C over $project.toml"
     done
     master master
-    master docking examples/master/tool.c
+    master changes
     master tasks examples/master/tool.c
     gcc -std=c11 -g -O1 $warnings -fsanitize=address,undefined -Iinclude examples/cycle/cycle.c build/libzangjulf.a -o "$scratch/cycle" &&
-        timeout 60 "$scratch/cycle" examples/tool_changer.toml >"$scratch/printed" && diff examples/cycle/cycle.out "$scratch/printed"
+        timeout 60 "$scratch/cycle" examples/own_tasks.toml >"$scratch/printed" && diff examples/cycle/cycle.out "$scratch/printed"
     report_run $? "the cycle of docs/use/EMBEDDING.md: < is written, > is printed"
 }
 

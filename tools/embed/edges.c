@@ -20,6 +20,7 @@ static void fail(int line, const char *fact) {
 
 static uint8_t text[1 << 16];
 static size_t length;
+static const struct zangjulf_options options = {sizeof options, 0};
 
 /* A slice of its exact size; a sanitizer watches its end. */
 static uint8_t *slice(size_t size) {
@@ -36,20 +37,21 @@ static void closed(void) {
     uint64_t serial = 7;
     uint64_t serials[16];
     size_t size = 7;
-    struct zangjulf_sent sent;
-    struct zangjulf_sent_ready ready = {7, 7, {7, 7, 7}};
-    struct zangjulf_write write = {7, {7, 7, 7}};
+    struct zangjulf_sent sent = {.size = 7, .waits = {.task = 7}};
+    struct zangjulf_frame table[1] = {{7, 7}};
+    struct zangjulf_write write = {.size = 7};
     struct zangjulf_writes writes = {7, 7};
-    struct zangjulf_owed_block owed = {7, 7, 7};
+    struct zangjulf_owed_block owed = {.size = 7};
     struct zangjulf_counters counters = {7, 7, 7, 7};
     struct zangjulf_outcome outcomes[1];
-    struct zangjulf_arrival arrival = {7, 7, 7, 7};
+    struct zangjulf_arrival arrival = {.serial = 7};
     struct zangjulf_image image;
-    struct zangjulf_change change;
     struct zangjulf_cost cost;
     struct zangjulf_place place;
     struct zangjulf_datagram datagram;
-    struct zangjulf_part part;
+    struct zangjulf_image_sizes sizes;
+    struct zangjulf_seat seat = {0};
+    struct zangjulf_taken taken;
     struct zangjulf_block block;
     EXPECT(zangjulf_epoch(&line, &number) == ZANGJULF_CLOSED && number == 7);
     EXPECT(zangjulf_next_serial(&line, &serial) == ZANGJULF_CLOSED && serial == 7);
@@ -58,53 +60,78 @@ static void closed(void) {
     EXPECT(zangjulf_next_write(&line, &byte, 1, &write) == ZANGJULF_CLOSED && byte == 7 && write.size == 7);
     EXPECT(zangjulf_next_writes(&line, &byte, 1, &writes) == ZANGJULF_CLOSED && byte == 7 && writes.size == 7 && writes.blocks == 7);
     EXPECT(zangjulf_owed_block(&line, 0, &owed) == ZANGJULF_CLOSED && owed.size == 7);
-    EXPECT(zangjulf_forget(&line, 1002) == ZANGJULF_CLOSED);
+    EXPECT(zangjulf_slave_lost(&line, 1002) == ZANGJULF_CLOSED);
     EXPECT(zangjulf_cleared(&line, 1002) == ZANGJULF_CLOSED && zangjulf_unplugged(&line, 1002) == ZANGJULF_CLOSED);
     EXPECT(zangjulf_ready(&line, &byte) == ZANGJULF_CLOSED && byte == 7);
     EXPECT(zangjulf_held_by(&line, 0, 0, &word) == ZANGJULF_CLOSED && word == 7);
-    EXPECT(zangjulf_send_ready(&line, tasks, 1, &byte, 1, &ready) == ZANGJULF_CLOSED && byte == 7 && ready.size == 7 && ready.waits.task == 7);
     EXPECT(zangjulf_counters(&line, 0, 0, &counters) == ZANGJULF_CLOSED && counters.sent == 7);
-    EXPECT(zangjulf_send(&line, tasks, 1, &byte, 1, &sent) == ZANGJULF_CLOSED && byte == 7);
+    EXPECT(zangjulf_send(&line, tasks, 1, &byte, 1, table, 1, &sent) == ZANGJULF_CLOSED && byte == 7 && sent.size == 7 && sent.waits.task == 7 && table[0].size == 7);
     EXPECT(zangjulf_arrive(&line, &byte, 1, outcomes, 1, &arrival) == ZANGJULF_CLOSED && arrival.serial == 7);
     EXPECT(zangjulf_read(&line, 0, &byte, 1, serials, 16, &image) == ZANGJULF_CLOSED && byte == 7);
-    EXPECT(zangjulf_next_change(&line, &byte, 1, &change) == ZANGJULF_CLOSED && byte == 7);
     EXPECT(zangjulf_preview(&line, 0, 0, &byte, 1, &size) == ZANGJULF_CLOSED && byte == 7);
     EXPECT(zangjulf_place(&line, 1, &place) == ZANGJULF_CLOSED);
+    EXPECT(zangjulf_places(&line, &number, 1, &place, 1) == ZANGJULF_CLOSED);
     EXPECT(zangjulf_datagram(&line, 0, 0, &datagram) == ZANGJULF_CLOSED);
-    EXPECT(zangjulf_part(&line, 0, &part) == ZANGJULF_CLOSED);
+    EXPECT(zangjulf_image_sizes(&line, 0, &sizes) == ZANGJULF_CLOSED);
     EXPECT(zangjulf_station(&line, 0, &word) == ZANGJULF_CLOSED && word == 7);
     EXPECT(zangjulf_position(&line, 1001, &number) == ZANGJULF_CLOSED && number == 7);
-    EXPECT(zangjulf_share(&line, 0, 0, 1002, &word) == ZANGJULF_CLOSED && word == 7);
+    EXPECT(zangjulf_expected_of(&line, 0, 0, 1002, &word) == ZANGJULF_CLOSED && word == 7);
     EXPECT(zangjulf_block(&line, 1002, 0, &byte, 1, &block) == ZANGJULF_CLOSED && byte == 7);
     EXPECT(zangjulf_connect(&line, 100, false, &cost) == ZANGJULF_CLOSED);
     EXPECT(zangjulf_disconnect(&line, 100, false, &cost) == ZANGJULF_CLOSED);
     EXPECT(zangjulf_remap(&line, 1002, 0, &word, 1, false, &cost) == ZANGJULF_CLOSED);
-    EXPECT(zangjulf_move(&line, 1002, 0, 1, false, &cost) == ZANGJULF_CLOSED);
+    EXPECT(zangjulf_move_area(&line, 1002, 0, 1, false, &cost) == ZANGJULF_CLOSED);
     EXPECT(zangjulf_declare(&line, &byte, 1, false, &cost) == ZANGJULF_CLOSED);
-    EXPECT(zangjulf_put_value(&line, 1, 1, &byte, 1) == ZANGJULF_CLOSED && byte == 7);
-    EXPECT(zangjulf_get_value(&line, 1, &byte, 1, &serial) == ZANGJULF_CLOSED && serial == 7);
-    zangjulf_close(&line);
-    EXPECT(!line.is_open && !line.at);
+    EXPECT(zangjulf_put_value(&line, 1, 0, 1, &byte, 1) == ZANGJULF_CLOSED && byte == 7);
+    EXPECT(zangjulf_get_value(&line, 1, 0, &byte, 1, &serial) == ZANGJULF_CLOSED && serial == 7);
+    EXPECT(zangjulf_seat_open(&line, 0, &seat) == ZANGJULF_CLOSED && zangjulf_look_open(&line, 0, 0, &seat) == ZANGJULF_CLOSED && !seat.mark);
+    EXPECT(zangjulf_show(&line) == ZANGJULF_CLOSED && zangjulf_take_posts(&line, &taken) == ZANGJULF_CLOSED);
+    EXPECT(zangjulf_close(&line) == ZANGJULF_CLOSED && !line.mark);
+    zangjulf_free(&line), zangjulf_free(NULL);
+}
+
+/* A handle that was never set to zeros: each call says so, and leaves it. An open line stays open when it is opened again. */
+static void strange(void) {
+    struct zangjulf line = {.mark = 0x5555555555555555}, before;
+    struct zangjulf_options large = options, many = options;
+    uint32_t number = 7;
+    uint8_t task = 7, byte = 7;
+    large.size++, many.lookers = ZANGJULF_LOOKERS + 1;
+    EXPECT(zangjulf_open(&line, &options, text, length, &task) == ZANGJULF_MISUSED && line.mark == 0x5555555555555555 && !line.at);
+    EXPECT(zangjulf_epoch(&line, &number) == ZANGJULF_MISUSED && number == 7);
+    EXPECT(zangjulf_post(&line, 0, 0, &byte, 1) == ZANGJULF_MISUSED && zangjulf_show(&line) == ZANGJULF_MISUSED);
+    EXPECT(zangjulf_cleared(&line, 1002) == ZANGJULF_MISUSED && zangjulf_close(&line) == ZANGJULF_MISUSED && line.mark);
+    line.mark = 0;
+    EXPECT(zangjulf_open(&line, &large, text, length, &task) == ZANGJULF_MISUSED && !line.mark);
+    EXPECT(zangjulf_open(&line, &many, text, length, &task) == ZANGJULF_MISUSED && !line.mark && task == 7);
+    many.lookers = ZANGJULF_LOOKERS;
+    EXPECT(zangjulf_open(&line, &many, text, length, &task) == ZANGJULF_DONE && line.mark);
+    EXPECT(zangjulf_post(&line, 7, 0, NULL, 0) == ZANGJULF_DONE);
+    before = line;
+    EXPECT(zangjulf_open(&line, &options, text, length, &task) == ZANGJULF_MISUSED && zangjulf_open(&line, &options, NULL, 0, &task) == ZANGJULF_MISUSED);
+    EXPECT(line.mark == before.mark && line.at == before.at && zangjulf_owed(&line, &number) == ZANGJULF_DONE && number == 12);
+    EXPECT(zangjulf_close(&line) == ZANGJULF_DONE && !line.mark && zangjulf_close(&line) == ZANGJULF_CLOSED);
 }
 
 static void misused(void) {
     struct zangjulf line = {0};
     uint8_t task = 0, twice[2] = {1, 1}, nine[9] = {0, 1, 2, 3, 4, 5, 6, 7, 8}, *out = slice(59);
-    struct zangjulf_sent sent = {0, 0, 0};
-    struct zangjulf_write write = {0, {0, 0, 0}};
+    struct zangjulf_sent sent = {0};
+    struct zangjulf_write write = {0};
     struct zangjulf_writes writes = {7, 7};
     struct zangjulf_owed_block block;
     struct zangjulf_outcome outcome;
-    struct zangjulf_arrival arrival = {7, 7, 7, 7};
+    struct zangjulf_arrival arrival = {.serial = 7};
     uint32_t owed = 0;
-    EXPECT(zangjulf_open(&line, (const uint8_t *)"x", 1, 0, &task) == ZANGJULF_PROJECT_NOT_TOML && !line.is_open);
-    EXPECT(zangjulf_open(&line, (const uint8_t *)"[[slave]]", 9, 0, &task) == ZANGJULF_PROJECT_MISSING_FIELD && !line.is_open);
-    EXPECT(zangjulf_open(&line, text, length, 8, &task) == ZANGJULF_DONE && line.is_open);
-    EXPECT(zangjulf_send(&line, twice, 2, out, 59, &sent) == ZANGJULF_MISUSED);
-    EXPECT(zangjulf_send(&line, nine, 9, out, 59, &sent) == ZANGJULF_MISUSED);
-    EXPECT(zangjulf_send(&line, nine, 0, out, 59, &sent) == ZANGJULF_MISUSED);
-    EXPECT(zangjulf_send(&line, twice, 1, out, 59, &sent) == ZANGJULF_UNPROGRAMMED && sent.owed == 12);
-    EXPECT(zangjulf_send(&line, nine + 8, 1, out, 59, &sent) == ZANGJULF_NO_SUCH_TASK);
+    EXPECT(zangjulf_open(&line, &options, (const uint8_t *)"x", 1, &task) == ZANGJULF_PROJECT_NOT_TOML && !line.mark);
+    EXPECT(zangjulf_open(&line, &options, (const uint8_t *)"[[slave]]", 9, &task) == ZANGJULF_PROJECT_MISSING_FIELD && !line.mark);
+    EXPECT(zangjulf_open(&line, &options, text, length, &task) == ZANGJULF_DONE && line.mark);
+    EXPECT(zangjulf_send(&line, twice, 2, out, 59, NULL, 0, &sent) == ZANGJULF_MISUSED);
+    EXPECT(zangjulf_send(&line, nine, 9, out, 59, NULL, 0, &sent) == ZANGJULF_MISUSED);
+    EXPECT(zangjulf_send(&line, nine, 0, out, 59, NULL, 0, &sent) == ZANGJULF_MISUSED);
+    /* after the opening every FMMU is unknown: a task waits for its own four sync managers' blocks and all six FMMUs' */
+    EXPECT(zangjulf_send(&line, nine, 1, out, 59, NULL, 0, &sent) == ZANGJULF_WAITS && sent.waits.task == 0 && sent.waits.blocks == 10 && !sent.waits.outside);
+    EXPECT(zangjulf_send(&line, nine + 8, 1, out, 59, NULL, 0, &sent) == ZANGJULF_NO_SUCH_TASK && !sent.size && !sent.frames);
     /* three slaves with an output and an input area each, two blocks an area */
     EXPECT(zangjulf_owed(&line, &owed) == ZANGJULF_DONE && owed == 12);
     EXPECT(zangjulf_owed_block(&line, 0, &block) == ZANGJULF_DONE && block.station == 1002 && block.start == 0x0810 && block.size == 8);
@@ -116,13 +143,13 @@ static void misused(void) {
     EXPECT(zangjulf_arrive(&line, out, 27, &outcome, 0, &arrival) == ZANGJULF_SHORT && arrival.serial == 7);
     /* a slice without elements may be NULL */
     EXPECT(zangjulf_post(&line, 0, 0, NULL, 0) == ZANGJULF_POST_LENGTH && zangjulf_post(&line, 7, 0, NULL, 0) == ZANGJULF_DONE);
-    EXPECT(zangjulf_arrive(&line, NULL, 0, NULL, 0, &arrival) == ZANGJULF_SHORT && zangjulf_send(&line, NULL, 0, NULL, 0, &sent) == ZANGJULF_MISUSED);
+    EXPECT(zangjulf_arrive(&line, NULL, 0, NULL, 0, &arrival) == ZANGJULF_SHORT && zangjulf_send(&line, NULL, 0, NULL, 0, NULL, 0, &sent) == ZANGJULF_MISUSED);
     EXPECT(zangjulf_next_write(&line, NULL, 0, &write) == ZANGJULF_ROOM && zangjulf_locate(NULL, 0, &(struct zangjulf_location){0}) == ZANGJULF_DONE);
     EXPECT(zangjulf_post(&line, 0, 0, out, 13) == ZANGJULF_POST_LENGTH);
     EXPECT(zangjulf_post(&line, 0, 1, out, 14) == ZANGJULF_STALE_POST);
     EXPECT(zangjulf_post(&line, 8, 1, out, 0) == ZANGJULF_NO_SUCH_TASK);
     EXPECT(zangjulf_post(&line, 0, 0, out, 14) == ZANGJULF_DONE);
-    zangjulf_close(&line);
+    EXPECT(zangjulf_close(&line) == ZANGJULF_DONE);
     free(out);
 }
 
@@ -154,17 +181,17 @@ static void write_all(struct zangjulf *line) {
     while (!zangjulf_owed_block(line, 0, &first) && !(number = zangjulf_next_write(line, frame, 60, &write))) {
         EXPECT(write.block.station == first.station && write.block.start == first.start && write.block.size == first.size);
         pass(frame, write.size);
-        EXPECT(zangjulf_arrive(line, frame, write.size, &outcome, 1, &arrival) == ZANGJULF_WRITE_DONE && !arrival.datagrams);
-        EXPECT(arrival.station == first.station && arrival.start == first.start);
-        EXPECT(zangjulf_arrive(line, frame, write.size, &outcome, 1, &arrival) == ZANGJULF_STALE);
+        EXPECT(zangjulf_arrive(line, frame, write.size, &outcome, 1, &arrival) == ZANGJULF_DONE && arrival.kind == ZANGJULF_OF_BLOCKS && arrival.datagrams == 1);
+        EXPECT(outcome.kind == ZANGJULF_BLOCK_WRITTEN && outcome.station == first.station && outcome.start == first.start && outcome.length == first.size);
+        EXPECT(zangjulf_arrive(line, frame, write.size, &outcome, 1, &arrival) == ZANGJULF_DONE && arrival.kind == ZANGJULF_STALE && !arrival.datagrams);
     }
     number = zangjulf_next_write(line, frame, 60, &write);
     EXPECT(number == ZANGJULF_NOTHING_OWED);
     free(frame);
 }
 
-/* All blocks of a slave that was forgotten go out in one frame: each is answered by its own counter, and those that no slave took
- * are sent again. A frame of one block is answered as a single write is. */
+/* All blocks of a slave that lost its registers go out in one frame: each is answered by its own counter, and those that no slave took
+ * are sent again. */
 static void write_at_once(struct zangjulf *line) {
     uint8_t *frame = slice(ZANGJULF_FRAME), *single = slice(60);
     struct zangjulf_outcome outcomes[4];
@@ -173,127 +200,131 @@ static void write_at_once(struct zangjulf *line) {
     struct zangjulf_arrival arrival;
     uint32_t owed = 7;
     EXPECT(zangjulf_next_writes(line, frame, ZANGJULF_FRAME, &writes) == ZANGJULF_NOTHING_OWED && writes.size == 7);
-    EXPECT(zangjulf_forget(line, 1002) == ZANGJULF_DONE);
+    EXPECT(zangjulf_slave_lost(line, 1002) == ZANGJULF_DONE);
     EXPECT(zangjulf_next_writes(line, frame, ZANGJULF_FRAME, &writes) == ZANGJULF_DONE && writes.blocks == 4 && writes.size == 112);
     pass(frame, writes.size);
     /* the second block was taken by none; the third one's data begin after three heads and two blocks: 26 + 20 + 28 */
     frame[26 + 20 + 16] = 0;
-    EXPECT(zangjulf_arrive(line, frame, writes.size, outcomes, 4, &arrival) == ZANGJULF_WRITTEN && arrival.datagrams == 4 && !arrival.station);
+    EXPECT(zangjulf_arrive(line, frame, writes.size, outcomes, 4, &arrival) == ZANGJULF_DONE && arrival.kind == ZANGJULF_OF_BLOCKS && arrival.datagrams == 4);
     EXPECT(outcomes[0].kind == ZANGJULF_BLOCK_WRITTEN && outcomes[0].station == 1002 && outcomes[0].start == 0x0810 && outcomes[0].at == 26);
     EXPECT(outcomes[1].kind == ZANGJULF_BLOCK_MISSED && outcomes[1].expected == 1 && !outcomes[1].got && outcomes[1].start == 0x0600);
     EXPECT(outcomes[2].kind == ZANGJULF_BLOCK_WRITTEN && outcomes[2].at == 26 + 20 + 28 && outcomes[2].length == 8);
     EXPECT(zangjulf_owed(line, &owed) == ZANGJULF_DONE && owed == 1);
-    EXPECT(zangjulf_arrive(line, frame, writes.size, outcomes, 4, &arrival) == ZANGJULF_STALE);
+    EXPECT(zangjulf_arrive(line, frame, writes.size, outcomes, 4, &arrival) == ZANGJULF_DONE && arrival.kind == ZANGJULF_STALE);
     /* one block has the frame of a single write, and a later write of it takes its place */
     EXPECT(zangjulf_next_writes(line, frame, 60, &writes) == ZANGJULF_DONE && writes.blocks == 1 && writes.size == 60);
     EXPECT(zangjulf_next_write(line, single, 60, &write) == ZANGJULF_DONE && !memcmp(frame + 16, single + 16, 1) && !memcmp(frame + 18, single + 18, 42));
     pass(frame, 60), pass(single, 60);
-    EXPECT(zangjulf_arrive(line, frame, 60, outcomes, 4, &arrival) == ZANGJULF_STALE);
-    EXPECT(zangjulf_arrive(line, single, 60, outcomes, 4, &arrival) == ZANGJULF_WRITE_DONE && arrival.station == 1002);
+    EXPECT(zangjulf_arrive(line, frame, 60, outcomes, 4, &arrival) == ZANGJULF_DONE && arrival.kind == ZANGJULF_STALE);
+    EXPECT(zangjulf_arrive(line, single, 60, outcomes, 4, &arrival) == ZANGJULF_DONE && arrival.kind == ZANGJULF_OF_BLOCKS && outcomes[0].station == 1002);
     EXPECT(zangjulf_owed(line, &owed) == ZANGJULF_DONE && !owed);
     free(frame);
     free(single);
 }
 
-/* Outputs reach the slaves, inputs the tasks, and each is handed out as a change, in order. */
+/* Outputs reach the slaves, and inputs the tasks. */
 static void exchange(struct zangjulf *line) {
     const uint8_t tasks[2] = {0, 1}, outputs[14] = {1, 2, 3, 4, 5, 6, 7, 8, 9, 10, 11, 12, 13, 14};
     uint8_t *frames = slice(80), *data = slice(26);
-    struct zangjulf_sent sent = {0, 0, 0};
+    struct zangjulf_sent sent = {0};
+    struct zangjulf_frame table[2] = {{7, 7}, {7, 7}};
     struct zangjulf_outcome outcomes[2];
     struct zangjulf_arrival arrival;
-    struct zangjulf_change change;
     struct zangjulf_image image = {0};
     struct zangjulf_counters counters;
     uint64_t serials[16], value = 0;
     for (int i = 0; i < 6; i++) memories[1][0x1180 + i] = (uint8_t)(0x20 + i), memories[2][0x1180 + i] = (uint8_t)(0x30 + i);
     EXPECT(zangjulf_post(line, 0, 0, outputs, sizeof outputs) == ZANGJULF_DONE);
     /* datagrams of 26 and 2 bytes in one frame: 16 + 38 + 14 */
-    EXPECT(zangjulf_send(line, tasks, 2, frames, 67, &sent) == ZANGJULF_ROOM && sent.size == 68 && frames[0] == 0xaa);
-    EXPECT(zangjulf_send(line, tasks, 2, frames, 80, &sent) == ZANGJULF_DONE && sent.frames == 1 && sent.size == 68);
+    EXPECT(zangjulf_send(line, tasks, 2, frames, 67, table, 2, &sent) == ZANGJULF_ROOM && sent.size == 68 && frames[0] == 0xaa && table[0].size == 7);
+    EXPECT(zangjulf_send(line, tasks, 2, frames, 80, table, 2, &sent) == ZANGJULF_DONE && sent.frames == 1 && sent.size == 68 && sent.first_serial == 12);
+    EXPECT(!table[0].offset && table[0].size == 68 && table[1].size == 7);
+    EXPECT(zangjulf_read(line, 0, data, 26, serials, 16, &image) == ZANGJULF_DONE && image.state == ZANGJULF_NO_DATA && image.first_serial == 12);
+    memset(data, 0xaa, 26);
     EXPECT(zangjulf_frame_size(frames) == 68 && frames[68] == 0xaa);
     pass(frames, sent.size);
     /* axis X has the first six output bytes, axis Y the others; its second byte is a gap, and nothing is sent of it */
     EXPECT(memories[1][0x1100] == 1 && memories[1][0x1105] == 6 && memories[2][0x1100] == 7 && memories[2][0x1107] == 14);
     EXPECT(!memories[2][0x1101]);
     EXPECT(zangjulf_is_mine(frames, sent.size));
-    EXPECT(zangjulf_arrive(line, frames, sent.size, outcomes, 1, &arrival) == ZANGJULF_DONE && arrival.datagrams == 2 && arrival.serial == 12);
+    EXPECT(zangjulf_arrive(line, frames, sent.size, outcomes, 1, &arrival) == ZANGJULF_DONE && arrival.kind == ZANGJULF_OF_TASKS && arrival.datagrams == 2 && arrival.serial == 12);
     EXPECT(outcomes[0].kind == ZANGJULF_INPUTS && outcomes[0].task == 0 && outcomes[0].datagram == 0 && outcomes[0].at == 26 && outcomes[0].length == 26);
     EXPECT(zangjulf_counters(line, 0, 0, &counters) == ZANGJULF_DONE && counters.sent == 1 && counters.good == 1 && !counters.wrong && !counters.again);
     EXPECT(zangjulf_counters(line, 0, 16, &counters) == ZANGJULF_NOTHING && zangjulf_counters(line, 8, 0, &counters) == ZANGJULF_NOTHING);
     EXPECT(zangjulf_read(line, 0, data, 25, serials, 16, &image) == ZANGJULF_ROOM && data[0] == 0xaa);
     EXPECT(zangjulf_read(line, 0, data, 26, serials, 16, &image) == ZANGJULF_DONE && image.datagrams == 1 && image.size == 26 && image.has == 1 && serials[0] == 12);
-    EXPECT(zangjulf_get_value(line, 12, data, 26, &value) == ZANGJULF_DONE && value == 0x25242322);
+    EXPECT(image.state == ZANGJULF_COMPLETE && image.first_serial == 12);
+    EXPECT(zangjulf_get_value(line, 12, 0, data, 26, &value) == ZANGJULF_DONE && value == 0x25242322);
+    EXPECT(zangjulf_get_value(line, 12, 1, data, 26, &value) == ZANGJULF_STALE_POST);
     EXPECT(!memcmp(data, outputs, 7) && !data[7] && !memcmp(data + 8, outputs + 8, 6) && data[14] == 0x20 && data[19] == 0x25 && data[20] == 0x30 && data[25] == 0x35);
-    EXPECT(zangjulf_next_change(line, data, 25, &change) == ZANGJULF_ROOM && change.kind == ZANGJULF_GOOD && change.size == 26);
-    EXPECT(zangjulf_next_change(line, data, 26, &change) == ZANGJULF_DONE && change.task == 0 && data[14] == 0x20);
-    EXPECT(zangjulf_next_change(line, data, 26, &change) == ZANGJULF_DONE && change.task == 1 && change.size == 2);
-    EXPECT(zangjulf_next_change(line, data, 26, &change) == ZANGJULF_NOTHING);
+    /* task 7 has no datagram: it is complete, and its sending has no frame */
+    EXPECT(zangjulf_read(line, 7, data, 26, serials, 16, &image) == ZANGJULF_DONE && image.state == ZANGJULF_COMPLETE && !image.datagrams && !image.size);
     free(frames);
     free(data);
 }
 
-/* Axis X is forgotten while its frame and a register write to it are under way: the frame is answered, the write confirms nothing,
+/* Axis X loses its registers while its frame and a register write to it are under way: the frame is answered, the write confirms nothing,
  * its four blocks are written again, and its task goes on in its epoch with what was posted before. */
-static void forget(struct zangjulf *line) {
+static void lose(struct zangjulf *line) {
     const uint8_t tasks[1] = {0};
     uint8_t *frame = slice(60), *first = slice(60), *again = slice(60);
-    struct zangjulf_sent sent = {0, 0, 0};
+    struct zangjulf_sent sent = {0};
     struct zangjulf_write write;
     struct zangjulf_outcome outcome;
     struct zangjulf_arrival arrival;
-    struct zangjulf_change change;
     uint32_t epoch = 7, owed = 7;
-    EXPECT(zangjulf_forget(line, 9999) == ZANGJULF_UNKNOWN_STATION && zangjulf_forget(line, 2001) == ZANGJULF_ABSENT);
+    EXPECT(zangjulf_slave_lost(line, 9999) == ZANGJULF_UNKNOWN_STATION && zangjulf_slave_lost(line, 2001) == ZANGJULF_ABSENT);
     EXPECT(zangjulf_owed(line, &owed) == ZANGJULF_DONE && !owed);
-    EXPECT(zangjulf_forget(line, 1002) == ZANGJULF_DONE && zangjulf_owed(line, &owed) == ZANGJULF_DONE && owed == 4);
+    EXPECT(zangjulf_slave_lost(line, 1002) == ZANGJULF_DONE && zangjulf_owed(line, &owed) == ZANGJULF_DONE && owed == 4);
     write_all(line);
     /* a datagram of 26 bytes: 16 + 38, so 60 with the padding */
-    EXPECT(zangjulf_send(line, tasks, 1, frame, 60, &sent) == ZANGJULF_DONE && sent.size == 60);
+    EXPECT(zangjulf_send(line, tasks, 1, frame, 60, NULL, 0, &sent) == ZANGJULF_DONE && sent.size == 60);
     pass(frame, 60);
-    EXPECT(zangjulf_forget(line, 1002) == ZANGJULF_DONE);
+    EXPECT(zangjulf_slave_lost(line, 1002) == ZANGJULF_DONE);
     EXPECT(zangjulf_next_write(line, first, 60, &write) == ZANGJULF_DONE && write.block.station == 1002 && write.block.start == 0x0810);
     pass(first, 60);
-    EXPECT(zangjulf_forget(line, 1002) == ZANGJULF_DONE);
-    EXPECT(zangjulf_arrive(line, first, 60, &outcome, 1, &arrival) == ZANGJULF_STALE);
+    EXPECT(zangjulf_slave_lost(line, 1002) == ZANGJULF_DONE);
+    EXPECT(zangjulf_arrive(line, first, 60, &outcome, 1, &arrival) == ZANGJULF_DONE && arrival.kind == ZANGJULF_STALE);
     EXPECT(zangjulf_owed(line, &owed) == ZANGJULF_DONE && owed == 4);
     EXPECT(zangjulf_arrive(line, frame, 60, &outcome, 1, &arrival) == ZANGJULF_DONE && outcome.kind == ZANGJULF_INPUTS);
-    EXPECT(zangjulf_send(line, tasks, 1, again, 60, &sent) == ZANGJULF_UNPROGRAMMED && sent.owed == 4);
+    EXPECT(zangjulf_send(line, tasks, 1, again, 60, NULL, 0, &sent) == ZANGJULF_WAITS && sent.waits.task == 0 && sent.waits.blocks == 4);
     write_all(line);
-    EXPECT(zangjulf_send(line, tasks, 1, again, 60, &sent) == ZANGJULF_DONE && !memcmp(frame + 26, again + 26, 14));
+    EXPECT(zangjulf_send(line, tasks, 1, again, 60, NULL, 0, &sent) == ZANGJULF_DONE && !memcmp(frame + 26, again + 26, 14));
     EXPECT(zangjulf_epoch(line, &epoch) == ZANGJULF_DONE && !epoch);
-    for (owed = 0; !zangjulf_next_change(line, frame, 60, &change); owed++) EXPECT(change.kind == ZANGJULF_GOOD);
-    EXPECT(owed == 1);
     free(frame);
     free(first);
     free(again);
 }
 
-/* A tool comes in task 1: asked first, then carried out, and the change says so. Task 0 isn't changed: it reads its data of before, and
+/* A tool comes in task 1: asked first, then carried out. Task 1 will wait once it is cleared. Task 0 isn't changed: it reads its data of before, and
  * its posts of before are accepted. Task 1 has no data. */
 static void edit(struct zangjulf *line) {
     struct zangjulf_cost would, cost;
-    struct zangjulf_change change;
     struct zangjulf_image image;
+    uint64_t value = 7;
     uint32_t epoch = 7;
     uint64_t serials[16];
-    uint8_t *none = slice(0), *data = slice(26), outputs[14] = {0};
+    uint8_t *data = slice(26), outputs[14] = {0};
     EXPECT(zangjulf_connect(line, 99, false, &cost) == ZANGJULF_UNKNOWN_ALIAS);
     EXPECT(zangjulf_disconnect(line, 0, false, &cost) == ZANGJULF_MANDATORY);
     EXPECT(zangjulf_disconnect(line, 100, false, &cost) == ZANGJULF_NOT_PRESENT);
     EXPECT(zangjulf_connect(line, 100, true, &would) == ZANGJULF_DONE && would.epoch == 1);
     EXPECT(zangjulf_epoch(line, &epoch) == ZANGJULF_DONE && !epoch);
     EXPECT(zangjulf_connect(line, 100, false, &cost) == ZANGJULF_DONE && cost.epoch == 1);
-    EXPECT(cost.recut == would.recut && cost.moved == would.moved && cost.places == would.places);
+    EXPECT(cost.recut == would.recut && cost.moved == would.moved && cost.places == would.places && cost.waits == 2 && would.waits == 2);
     EXPECT(zangjulf_epoch(line, &epoch) == ZANGJULF_DONE && epoch == 1);
-    EXPECT(zangjulf_next_change(line, none, 0, &change) == ZANGJULF_DONE && change.kind == ZANGJULF_SWAPPED);
     EXPECT(zangjulf_read(line, 0, data, 26, serials, 16, &image) == ZANGJULF_DONE && image.epoch == 1 && !image.task_epoch && image.datagrams == 1);
     EXPECT(image.has == 1 && serials[0] > 12 && data[14] == 0x20 && data[25] == 0x35);
     EXPECT(zangjulf_read(line, 1, data, 26, serials, 16, &image) == ZANGJULF_DONE && image.epoch == 1 && image.task_epoch == 1 && image.datagrams == 1);
     EXPECT(!image.has && !serials[0] && !data[0] && !data[1]);
     EXPECT(zangjulf_post(line, 0, 0, outputs, 14) == ZANGJULF_DONE && zangjulf_post(line, 0, 1, outputs, 14) == ZANGJULF_DONE);
     EXPECT(zangjulf_post(line, 0, 2, outputs, 14) == ZANGJULF_STALE_POST && zangjulf_post(line, 1, 0, outputs, 2) == ZANGJULF_STALE_POST);
-    free(none);
+    /* values follow their task: 21 is an output of task 0, 101 one of the tool in task 1 */
+    EXPECT(zangjulf_put_value(line, 21, 0, 1, outputs, 14) == ZANGJULF_DONE && zangjulf_put_value(line, 21, 2, 1, outputs, 14) == ZANGJULF_STALE_POST);
+    EXPECT(zangjulf_put_value(line, 101, 0, 1, outputs, 14) == ZANGJULF_STALE_POST && zangjulf_put_value(line, 101, 1, 1, outputs, 14) == ZANGJULF_DONE);
+    EXPECT(zangjulf_get_value(line, 111, 0, data, 26, &value) == ZANGJULF_STALE_POST && value == 7);
+    EXPECT(zangjulf_get_value(line, 111, 1, data, 26, &value) == ZANGJULF_DONE && !value);
+    EXPECT(zangjulf_put_value(line, 111, 0, 1, outputs, 14) == ZANGJULF_STALE_POST && zangjulf_put_value(line, 111, 1, 1, outputs, 14) == ZANGJULF_IS_INPUT);
     free(data);
 }
 
@@ -326,30 +357,46 @@ static void bits(void) {
     EXPECT(zangjulf_get_bits(bytes, 14, 0, 0, &value) == ZANGJULF_MISUSED && zangjulf_get_bits(bytes, 14, SIZE_MAX, 1, &value) == ZANGJULF_MISUSED);
     EXPECT(zangjulf_put_bits(bytes, 14, 3, 2, 4) == ZANGJULF_TOO_WIDE && bytes[0] == 0xaa && value == 0x5555555555555555);
     EXPECT(zangjulf_put_bits(bytes, 14, 7, 2, 0) == ZANGJULF_DONE && bytes[0] == 0x2a && bytes[1] == 0xaa);
-    EXPECT(zangjulf_open(&line, text, length, 0, &task) == ZANGJULF_DONE);
+    EXPECT(zangjulf_open(&line, &options, text, length, &task) == ZANGJULF_DONE);
     EXPECT(zangjulf_place(&line, 21, &place) == ZANGJULF_DONE && !place.is_input && place.image_bit == 64);
-    EXPECT(zangjulf_put_value(&line, 21, 0x1234, bytes, 14) == ZANGJULF_DONE && bytes[8] == 0x34 && bytes[9] == 0x12 && bytes[10] == 0xaa);
-    EXPECT(zangjulf_get_value(&line, 21, bytes, 14, &value) == ZANGJULF_DONE && value == 0x1234);
-    EXPECT(zangjulf_put_value(&line, 12, 1, bytes, 14) == ZANGJULF_IS_INPUT);
-    EXPECT(zangjulf_put_value(&line, 21, (uint64_t)1 << place.bits, bytes, 14) == ZANGJULF_TOO_WIDE);
-    EXPECT(zangjulf_put_value(&line, 21, 1, bytes, 9) == ZANGJULF_ROOM && zangjulf_put_value(&line, 99999, 1, bytes, 14) == ZANGJULF_NOTHING);
-    zangjulf_close(&line);
+    EXPECT(zangjulf_put_value(&line, 21, 0, 0x1234, bytes, 14) == ZANGJULF_DONE && bytes[8] == 0x34 && bytes[9] == 0x12 && bytes[10] == 0xaa);
+    EXPECT(zangjulf_get_value(&line, 21, 0, bytes, 14, &value) == ZANGJULF_DONE && value == 0x1234);
+    EXPECT(zangjulf_put_value(&line, 12, 0, 1, bytes, 14) == ZANGJULF_IS_INPUT);
+    EXPECT(zangjulf_put_value(&line, 21, 0, (uint64_t)1 << place.bits, bytes, 14) == ZANGJULF_TOO_WIDE);
+    EXPECT(zangjulf_put_value(&line, 21, 1, 1, bytes, 14) == ZANGJULF_STALE_POST && zangjulf_get_value(&line, 21, 1, bytes, 14, &value) == ZANGJULF_STALE_POST);
+    EXPECT(zangjulf_put_value(&line, 21, 0, 1, bytes, 9) == ZANGJULF_ROOM && zangjulf_put_value(&line, 99999, 0, 1, bytes, 14) == ZANGJULF_NOTHING);
+    EXPECT(zangjulf_close(&line) == ZANGJULF_DONE);
     free(bytes);
 }
 
+/* A table of places. */
+static void tables(void) {
+    const uint32_t variables[3] = {21, 99999, 12};
+    struct zangjulf line = {0};
+    struct zangjulf_place places[4], one, none;
+    uint8_t task;
+    memset(places, 7, sizeof places), memset(&none, 0, sizeof none);
+    EXPECT(zangjulf_open(&line, &options, text, length, &task) == ZANGJULF_DONE);
+    EXPECT(zangjulf_places(&line, variables, 3, places, 2) == ZANGJULF_MISUSED && places[0].bits == 7);
+    EXPECT(zangjulf_places(&line, variables, 3, places, 4) == ZANGJULF_DONE && places[3].bits == 7 && !memcmp(&places[1], &none, sizeof none));
+    EXPECT(zangjulf_place(&line, 21, &one) == ZANGJULF_DONE && places[0].image_bit == one.image_bit && places[0].bits == one.bits && one.image_bit == 64);
+    EXPECT(places[2].is_input && places[2].task == 0 && zangjulf_places(&line, NULL, 0, NULL, 0) == ZANGJULF_DONE);
+    EXPECT(zangjulf_close(&line) == ZANGJULF_DONE);
+}
+
 /* What a slave adds to an expected counter (ETG.1000.4: 1 that is read, 2 that is written): each axis both, the coupler nothing. */
-static void shares(void) {
+static void added(void) {
     struct zangjulf line = {0};
     uint8_t task;
-    uint16_t share = 7;
-    EXPECT(zangjulf_open(&line, text, length, 0, &task) == ZANGJULF_DONE);
-    EXPECT(zangjulf_share(&line, 0, 1, 1002, &share) == ZANGJULF_NOTHING && zangjulf_share(&line, 8, 0, 1002, &share) == ZANGJULF_NOTHING);
-    EXPECT(zangjulf_share(&line, 0, 0, 2001, &share) == ZANGJULF_NOTHING && share == 7);
-    EXPECT(zangjulf_share(&line, 0, 0, 1001, &share) == ZANGJULF_DONE && share == 0);
-    EXPECT(zangjulf_share(&line, 0, 0, 1002, &share) == ZANGJULF_DONE && share == 3);
-    EXPECT(zangjulf_share(&line, 1, 0, 1002, &share) == ZANGJULF_DONE && share == 0);
-    EXPECT(zangjulf_share(&line, 1, 0, 1004, &share) == ZANGJULF_DONE && share == 3);
-    zangjulf_close(&line);
+    uint16_t adds = 7;
+    EXPECT(zangjulf_open(&line, &options, text, length, &task) == ZANGJULF_DONE);
+    EXPECT(zangjulf_expected_of(&line, 0, 1, 1002, &adds) == ZANGJULF_NOTHING && zangjulf_expected_of(&line, 8, 0, 1002, &adds) == ZANGJULF_NOTHING);
+    EXPECT(zangjulf_expected_of(&line, 0, 0, 2001, &adds) == ZANGJULF_NOTHING && adds == 7);
+    EXPECT(zangjulf_expected_of(&line, 0, 0, 1001, &adds) == ZANGJULF_DONE && adds == 0);
+    EXPECT(zangjulf_expected_of(&line, 0, 0, 1002, &adds) == ZANGJULF_DONE && adds == 3);
+    EXPECT(zangjulf_expected_of(&line, 1, 0, 1002, &adds) == ZANGJULF_DONE && adds == 0);
+    EXPECT(zangjulf_expected_of(&line, 1, 0, 1004, &adds) == ZANGJULF_DONE && adds == 3);
+    EXPECT(zangjulf_close(&line) == ZANGJULF_DONE);
 }
 
 /* The frame that switches off a slave's FMMUs. */
@@ -394,70 +441,28 @@ static void beside(void) {
     static const char stationless[] = "[[slave]]\nstation = 7\n[[slave]]\n";
     EXPECT(zangjulf_locate((const uint8_t *)stationless, sizeof stationless - 1, &location) == ZANGJULF_PROJECT_MISSING_FIELD);
     EXPECT(location.place.slave == 1 && location.place.key == ZANGJULF_KEY_STATION && location.place.area == ZANGJULF_NOWHERE && !location.line);
-    EXPECT(!strcmp(zangjulf_name(17), "UNPROGRAMMED") && !strcmp(zangjulf_name(14), "UNKNOWN"));
+    EXPECT(!strcmp(zangjulf_name(18), "NOTHING_OWED") && !strcmp(zangjulf_name(17), "UNKNOWN"));
     free(out);
 }
 
 static void line_of_slaves(void) {
     struct zangjulf line = {0};
+    uint64_t serial = 7;
+    uint32_t epoch = 7;
     uint8_t task;
-    EXPECT(zangjulf_open(&line, text, length, 8, &task) == ZANGJULF_DONE);
+    EXPECT(zangjulf_open(&line, &options, text, length, &task) == ZANGJULF_DONE);
     start();
     write_all(&line);
     exchange(&line);
-    forget(&line);
+    lose(&line);
     write_at_once(&line);
     edit(&line);
     declare(&line);
-    /* opened anew in its place, and closed twice */
-    EXPECT(zangjulf_open(&line, text, length, 8, &task) == ZANGJULF_DONE);
-    zangjulf_close(&line);
-    zangjulf_close(&line);
-}
-
-/* A line that keeps two changes: they stay, and what would add more is refused before anything changes. */
-static void full(void) {
-    const uint8_t tasks[2] = {0, 1};
-    struct zangjulf line = {0};
-    struct zangjulf_cost cost = {7, 7, 7, 7, 7};
-    struct zangjulf_sent sent = {7, 7, 7};
-    struct zangjulf_outcome outcomes[2];
-    struct zangjulf_arrival arrival = {7, 7, 7, 7};
-    struct zangjulf_change change;
-    uint8_t task, *frames = slice(80), *data = slice(26);
-    uint32_t epoch = 7;
-    uint64_t serial = 7;
-    EXPECT(zangjulf_open(&line, text, length, 2, &task) == ZANGJULF_DONE);
-    start();
-    write_all(&line);
-    EXPECT(zangjulf_connect(&line, 900, false, &cost) == ZANGJULF_UNKNOWN_ALIAS);
-    EXPECT(zangjulf_send(&line, tasks, 2, frames, 80, &sent) == ZANGJULF_DONE);
-    pass(frames, sent.size);
-    EXPECT(zangjulf_remap(&line, 1002, 0, NULL, 0, true, &cost) == ZANGJULF_DONE);
-    /* two good answers: the line is full */
-    EXPECT(zangjulf_arrive(&line, frames, sent.size, outcomes, 2, &arrival) == ZANGJULF_DONE && arrival.datagrams == 2);
-    sent.size = 7, cost.epoch = 7;
-    EXPECT(zangjulf_send(&line, tasks, 2, frames, 80, &sent) == ZANGJULF_CHANGES_FULL && sent.size == 7);
-    EXPECT(zangjulf_send(&line, tasks, 0, frames, 80, &sent) == ZANGJULF_MISUSED);
-    EXPECT(zangjulf_next_serial(&line, &serial) == ZANGJULF_DONE && serial == 13);
-    EXPECT(zangjulf_connect(&line, 100, false, &cost) == ZANGJULF_CHANGES_FULL && cost.epoch == 7);
-    EXPECT(zangjulf_connect(&line, 901, false, &cost) == ZANGJULF_UNKNOWN_ALIAS);
-    EXPECT(zangjulf_connect(&line, 100, true, &cost) == ZANGJULF_DONE && cost.epoch == 1);
-    EXPECT(zangjulf_epoch(&line, &epoch) == ZANGJULF_DONE && !epoch);
-    EXPECT(zangjulf_arrive(&line, frames, 68, outcomes, 2, &arrival) == ZANGJULF_STALE);
-    /* one is asked for: there is room for one, and not for two */
-    EXPECT(zangjulf_next_change(&line, data, 26, &change) == ZANGJULF_DONE && change.task == 0);
-    EXPECT(zangjulf_send(&line, tasks, 2, frames, 80, &sent) == ZANGJULF_DONE);
-    pass(frames, sent.size);
-    arrival.serial = 7, outcomes[0].kind = 7;
-    EXPECT(zangjulf_arrive(&line, frames, sent.size, outcomes, 2, &arrival) == ZANGJULF_CHANGES_FULL && arrival.serial == 7 && outcomes[0].kind == 7);
-    EXPECT(zangjulf_next_change(&line, data, 26, &change) == ZANGJULF_DONE && change.task == 1);
-    EXPECT(zangjulf_arrive(&line, frames, sent.size, outcomes, 2, &arrival) == ZANGJULF_DONE && arrival.serial == 13);
-    EXPECT(zangjulf_next_change(&line, data, 26, &change) == ZANGJULF_DONE && zangjulf_next_change(&line, data, 26, &change) == ZANGJULF_DONE);
-    EXPECT(zangjulf_next_change(&line, data, 26, &change) == ZANGJULF_NOTHING);
-    zangjulf_close(&line);
-    free(frames);
-    free(data);
+    /* closed twice, and opened anew in its place: serials and epoch begin again */
+    EXPECT(zangjulf_close(&line) == ZANGJULF_DONE && zangjulf_close(&line) == ZANGJULF_CLOSED);
+    EXPECT(zangjulf_open(&line, &options, text, length, &task) == ZANGJULF_DONE);
+    EXPECT(zangjulf_next_serial(&line, &serial) == ZANGJULF_DONE && !serial && zangjulf_epoch(&line, &epoch) == ZANGJULF_DONE && !epoch);
+    EXPECT(zangjulf_close(&line) == ZANGJULF_DONE);
 }
 
 #ifdef WRAPPED
@@ -468,11 +473,11 @@ static void refused_openings(void) {
         struct zangjulf line = {0};
         uint8_t task;
         left = growths;
-        unsigned number = zangjulf_open(&line, text, length, 8, &task);
+        unsigned number = zangjulf_open(&line, &options, text, length, &task);
         is_spent = left < 0;
         left = -1;
-        EXPECT(number == (is_spent ? ZANGJULF_MEMORY : ZANGJULF_DONE) && line.is_open == !is_spent);
-        zangjulf_close(&line);
+        EXPECT(number == (is_spent ? ZANGJULF_MEMORY : ZANGJULF_DONE) && !line.mark == is_spent);
+        EXPECT(zangjulf_close(&line) == (is_spent ? ZANGJULF_CLOSED : ZANGJULF_DONE));
         EXPECT(live == before);
     }
     EXPECT(growths > 100);
@@ -484,7 +489,7 @@ static void refused_edits(void) {
     struct zangjulf_cost cost;
     uint8_t task;
     uint32_t epoch = 0;
-    EXPECT(zangjulf_open(&line, text, length, 8, &task) == ZANGJULF_DONE);
+    EXPECT(zangjulf_open(&line, &options, text, length, &task) == ZANGJULF_DONE);
     for (long growths = 0;; growths++) {
         left = growths;
         unsigned number = zangjulf_connect(&line, 100, false, &cost);
@@ -494,7 +499,7 @@ static void refused_edits(void) {
         EXPECT(zangjulf_epoch(&line, &epoch) == ZANGJULF_DONE && epoch == !is_spent);
         if (!is_spent) break;
     }
-    zangjulf_close(&line);
+    EXPECT(zangjulf_close(&line) == ZANGJULF_DONE);
 }
 #endif
 
@@ -504,12 +509,13 @@ int main(int count, char **words) {
     length = fread(text, 1, sizeof text, in);
     fclose(in);
     closed();
+    strange();
     misused();
     bits();
-    shares();
+    added();
+    tables();
     beside();
     line_of_slaves();
-    full();
 #ifdef WRAPPED
     refused_openings();
     refused_edits();

@@ -28,10 +28,10 @@ static uint8_t over(uint8_t answer) {
     return answer;
 }
 
-uint8_t __real_zangjulf_open(struct zangjulf *handle, const uint8_t *text, size_t length, uint32_t changes, uint8_t *task);
-uint8_t __wrap_zangjulf_open(struct zangjulf *handle, const uint8_t *text, size_t length, uint32_t changes, uint8_t *task) {
+uint8_t __real_zangjulf_open(struct zangjulf *handle, const struct zangjulf_options *options, const uint8_t *text, size_t length, uint8_t *task);
+uint8_t __wrap_zangjulf_open(struct zangjulf *handle, const struct zangjulf_options *options, const uint8_t *text, size_t length, uint8_t *task) {
     may_take = true;
-    return over(__real_zangjulf_open(handle, text, length, changes, task));
+    return over(__real_zangjulf_open(handle, options, text, length, task));
 }
 
 uint8_t __real_zangjulf_seat_open(struct zangjulf *handle, uint8_t task, struct zangjulf_seat *seat);

@@ -1,18 +1,18 @@
 /* Draws calls of the C library: any order, any numbers, any bytes, open and closed handles, slices of any length that end where
  * a page that can't be touched begins, refused growths. It ends with status 1 at an answer that include/zangjulf.h doesn't
  * allow, at a slice that was written though the call was refused, at an outcome, an age, a counter, an owed block, a frame of
- * register writes, a task that waits, data or a task's epoch that isn't the plain model's (model.h), at an image, outputs or a post of a seat that isn't its model's
- * (seated.h), at bits that differ from bits taken one by one, at a change that isn't the next of what happened, at a line
- * that is full of changes and isn't answered so, or the other way round, and where memory is live once all handles are
- * closed.
+ * register writes, a task that waits or will wait, data, their state or a task's epoch that isn't the plain model's (model.h), at an
+ * image, outputs or a post of a seat that isn't its model's (seated.h), at bits that differ from bits taken one by one, and where memory
+ * is live once all handles are closed.
  *
  *     fuzz PROJECT CALLS SEED [FOLDER [declare]]
  *
  * PROJECT is a text, which a line `%%` may end. With FOLDER each opened line leaves two files there: N.in is the script of
  * those calls for which the program hotline has a command (docs/use/PROGRAM.md), and N.out what they were answered, in the
  * program's words. A call that changes nothing and has no command is left out, as one with a short slice, a refused growth or
- * a question; so the rest must be what the program prints, whatever was called in between. Posts, for which there is no
- * command, are of zeros there, as if none had been made; a group is declared there only with `declare`. */
+ * a question; so the rest must be what the program prints, whatever was called in between. The program sends no task while a block is
+ * owed, and the library those that are ready: where they differ the script ends. Posts, for which there is no command, are of zeros
+ * there, as if none had been made; a group is declared there only with `declare`. */
 #define _GNU_SOURCE
 #include <stdarg.h>
 #include <stdio.h>
@@ -20,9 +20,9 @@
 #include <string.h>
 
 #include "growths.h"
+#include "ignore.h"
 #include "judge.h"
 #include "model.h"
-#include "pending.h"
 #include "seated.h"
 #include "words.h"
 
@@ -34,14 +34,12 @@
 static unsigned long commands;
 static struct guarded texts, counts, words;
 
-/* A handle, its model, its seats, how many changes it keeps and which it has, frames that it sent, most of them as its slaves made of
- * them, and where its commands and their answers are written, or NULL. */
+/* A handle, its model, its seats, frames that it sent, most of them as its slaves made of them, and where its commands and their
+ * answers are written, or NULL. */
 struct line {
     struct zangjulf handle;
     struct model model;
     struct owner owner;
-    struct pending pending;
-    uint32_t most_changes;
     uint8_t frames[FRAMES][ZANGJULF_FRAME];
     size_t frame_sizes[FRAMES], last_frame;
     FILE *script, *answers;
@@ -78,7 +76,7 @@ static void begin_script(struct line *line, const uint8_t *text, size_t size, un
 /* Whether an answered call goes into the line's script: not one that changed nothing and for which the program has no word. */
 static bool is_scripted(struct line *line, unsigned number) {
     if (line->script && ftell(line->script) > MOST_SCRIPT) end_script(line);
-    return line->script && number != ZANGJULF_MEMORY && number != ZANGJULF_ROOM && number < ZANGJULF_CHANGES_FULL;
+    return line->script && number != ZANGJULF_MEMORY && number != ZANGJULF_ROOM && number < ZANGJULF_BUSY;
 }
 
 /* Writes a command. */
@@ -122,36 +120,41 @@ static void keep(struct line *line, const uint8_t *frame, size_t size) {
     }
 }
 
+/* Whether two handles are the same. */
+static bool is_same_handle(const struct zangjulf *a, const struct zangjulf *b) { return a->mark == b->mark && a->at == b->at; }
+
+/* A line is opened, or refused: an open one stays as it is. */
 static void opening(struct line *line) {
     uint8_t task = 0;
     size_t size = below(3) ? text_size : below(text_size);
     uint8_t *moved = last(&ins, size);
+    struct zangjulf before = line->handle;
+    struct zangjulf_options options = {sizeof options, (uint32_t)below(MOST_LOOKERS + 1)};
+    if (!below(20)) options.size = (uint32_t)below(16);
+    if (!below(20)) options.lookers = ZANGJULF_LOOKERS + 1 + (uint32_t)below(3);
+    bool is_misused = before.mark || options.size != sizeof options || options.lookers > ZANGJULF_LOOKERS;
     memcpy(moved, text, size);
     if (!below(3) && size) moved[below(size)] = (uint8_t)draw();
     if (size) moved[size - 1] = '\n';
-    end_script(line);
-    forget_pending(&line->pending);
-    line->most_changes = !below(3) ? 0 : below(3) ? 1 + (uint32_t)below(3) : UINT32_MAX;
-    unsigned number = zangjulf_open(&line->handle, moved, size, line->most_changes, &task);
+    unsigned number = zangjulf_open(&line->handle, &options, moved, size, &task);
     bool is_fault = number == ZANGJULF_TOO_MANY_DATAGRAMS || number == ZANGJULF_MEMORY || (number > 200 && number <= ZANGJULF_PROJECT_AREA_TOO_BIG);
-    if (line->handle.is_open != !number || (number && !is_fault)) fail("an opening", number);
+    answers[number]++;
+    if ((number == ZANGJULF_MISUSED) != is_misused) fail("an opening that is misused", number);
+    if (number ? !is_same_handle(&before, &line->handle) : !line->handle.mark) fail("a handle after an opening", number);
+    if (is_misused) return;
+    if (number && !is_fault) fail("an opening", number);
+    end_script(line);
+    line->owner.lookers = options.lookers;
     model_opened(&line->model, &line->handle, moved, size);
-    owner_left(&line->owner);
     begin_script(line, moved, size, number, task);
 }
 
-/* Whether a line that keeps changes would have too many with so many more: 252 answers just that, where no change was missed. */
-static void expect_full(const struct line *line, bool was_open, unsigned number, size_t more) {
-    bool is_full = was_open && line->most_changes && line->pending.count + more > line->most_changes;
-    if (!was_open || (line->most_changes && !line->pending.is_sure)) return;
-    if ((number == ZANGJULF_CHANGES_FULL) != is_full) fail("a line full of changes and 252", number);
-}
-
 static void closing(struct line *line) {
-    zangjulf_close(&line->handle);
+    bool was_open = line->handle.mark;
+    if (was_open) owner_closes(&line->handle, &line->owner, &line->model.epochs);
+    unsigned number = zangjulf_close(&line->handle);
+    if (number != (was_open ? ZANGJULF_DONE : ZANGJULF_CLOSED) || line->handle.mark) fail("a closing", number);
     end_script(line);
-    forget_pending(&line->pending);
-    owner_left(&line->owner);
 }
 
 static void asking(struct line *line, bool was_open) {
@@ -163,25 +166,25 @@ static void asking(struct line *line, bool was_open) {
 }
 
 static void posting(struct line *line, bool was_open) {
-    struct zangjulf_part part = {0, 0};
+    struct zangjulf_image_sizes sizes = {0, 0};
     uint8_t task = (uint8_t)below(9);
     uint32_t epoch = some_epoch(&line->model.epochs, task);
-    zangjulf_part(&line->handle, task, &part);
-    size_t size = below(4) ? part.outputs : below(40);
+    ignore(zangjulf_image_sizes(&line->handle, task, &sizes));
+    size_t size = below(4) ? sizes.outputs : below(40);
     uint8_t *in = last(&ins, size);
     for (size_t i = 0; i < size; i++) in[i] = (uint8_t)draw();
     if (folder) memset(in, 0, size);
     unsigned number = zangjulf_post(&line->handle, task, epoch, in, size);
     expect(number, was_open, "\0\x08\x0f\x10");
-    if (was_open && number != epochs_post(&line->model.epochs, task, epoch, size, part.outputs)) fail("another answer to a post than the model's", number);
+    if (was_open && number != epochs_post(&line->model.epochs, task, epoch, size, sizes.outputs)) fail("another answer to a post than the model's", number);
 }
 
 static void writing(struct line *line, bool was_open) {
     size_t room = below(3) ? 60 : below(70);
-    struct zangjulf_write write = {0, {0, 0, 0}};
+    struct zangjulf_write write = {0};
     uint64_t serial = 0;
     uint8_t *out = out_room(room);
-    zangjulf_next_serial(&line->handle, &serial);
+    ignore(zangjulf_next_serial(&line->handle, &serial));
     unsigned number = zangjulf_next_write(&line->handle, out, room, &write);
     expect(number, was_open, "\0\x12\x13\x1d");
     if (number) expect_untouched(out, room, number);
@@ -199,7 +202,7 @@ static void writing_all(struct line *line, bool was_open) {
     struct zangjulf_writes writes = {0, 0};
     uint64_t serial = 0;
     uint8_t *out = out_room(room);
-    zangjulf_next_serial(&line->handle, &serial);
+    ignore(zangjulf_next_serial(&line->handle, &serial));
     if (was_open) size = model_writes(&line->model, &line->handle, serial, wanted, &blocks);
     unsigned number = zangjulf_next_writes(&line->handle, out, room, &writes);
     expect(number, was_open, "\0\x12\x13\x1d");
@@ -241,7 +244,8 @@ static void waiting(struct line *line, bool was_open) {
     }
 }
 
-/* There is no command for it: what is written of the line ends with a slave that is cleared or unplugged. */
+/* There is no command for it: what is written of the line ends with a slave of the line that is cleared. The program's answers don't hang
+ * on slaves outside the line. */
 static void clearing(struct line *line, bool was_open) {
     uint32_t position;
     uint16_t station = some_station();
@@ -251,96 +255,123 @@ static void clearing(struct line *line, bool was_open) {
     expect(number, was_open, is_unplugged ? "\0\x02\x05" : "\0\x05");
     unsigned wanted = where == ZANGJULF_UNKNOWN_STATION ? where : !is_unplugged || where == ZANGJULF_ABSENT ? 0 : ZANGJULF_ALREADY_PRESENT;
     if (was_open && number != wanted) fail("a slave that isn't where it is", number);
-    if (!number && is_unplugged) model_unplugged(&line->model, station), end_script(line);
-    if (!number && !is_unplugged) model_cleared(&line->model, &line->handle, station), end_script(line);
+    if (!number && is_unplugged) model_unplugged(&line->model, station);
+    if (!number && !is_unplugged) model_cleared(&line->model, &line->handle, station);
+    if (!number && where == ZANGJULF_DONE) end_script(line);
     if (was_open && !model_owes(&line->model, &line->handle)) fail("other owed blocks than the model's", number);
 }
 
-/* There is no command for it: what is written of the line ends with a slave that is forgotten. */
-static void forgetting(struct line *line, bool was_open) {
+/* There is no command for it: what is written of the line ends with a slave that lost its registers. */
+static void losing(struct line *line, bool was_open) {
     uint32_t position, epoch = 0, after = 0;
     uint64_t serial = 0, next = 0;
     uint16_t station = some_station();
     unsigned where = zangjulf_position(&line->handle, station, &position);
-    zangjulf_epoch(&line->handle, &epoch);
-    zangjulf_next_serial(&line->handle, &serial);
-    unsigned number = zangjulf_forget(&line->handle, station);
+    ignore(zangjulf_epoch(&line->handle, &epoch)), ignore(zangjulf_next_serial(&line->handle, &serial));
+    unsigned number = zangjulf_slave_lost(&line->handle, station);
     expect(number, was_open, "\0\x05\x06");
     if (number != where) fail("a slave that isn't where it is", number);
-    zangjulf_epoch(&line->handle, &after);
-    zangjulf_next_serial(&line->handle, &next);
-    if (after != epoch || next != serial) fail("a forgotten slave that changed more than its blocks", number);
-    if (!number) model_forgot(&line->model, station), end_script(line);
+    ignore(zangjulf_epoch(&line->handle, &after)), ignore(zangjulf_next_serial(&line->handle, &next));
+    if (after != epoch || next != serial) fail("a slave that lost more than its blocks", number);
+    if (!number) model_lost(&line->model, station), end_script(line);
     if (was_open && !model_owes(&line->model, &line->handle)) fail("other owed blocks than the model's", number);
 }
 
-static void sending(struct line *line, bool was_open) {
-    uint8_t *tasks = last(&ins, 9);
-    size_t count = below(10), room = below(8) ? some_length(30000) : ZANGJULF_FRAMES;
-    struct zangjulf_sent sent = {0, 0, 0};
-    uint64_t serial = 0;
-    uint32_t owed = 0;
-    for (size_t i = 0; i < count; i++) tasks[i + 9 - count] = below(6) ? (uint8_t)i : (uint8_t)below(10);
-    tasks = last(&ins, count);
-    uint8_t *out = out_room(room);
-    zangjulf_next_serial(&line->handle, &serial);
-    zangjulf_owed(&line->handle, &owed);
-    unsigned number = zangjulf_send(&line->handle, tasks, count, out, room, &sent);
-    expect(number, was_open, "\0\x08\x11\x13\x1d\xfc\xfe");
-    if (number != ZANGJULF_MISUSED) expect_full(line, was_open, number, 1);
-    if (number) expect_untouched(out, room, number);
-    if (number == ZANGJULF_UNPROGRAMMED && sent.owed != owed) fail("how many blocks are owed", number);
-    if (number == ZANGJULF_ROOM && sent.size <= room) fail("a sending's room", number);
-    if (is_scripted(line, number)) {
-        say(line, "send");
-        for (size_t i = 0; i < count; i++) fprintf(line->script, " %u", tasks[i]);
-        fprintf(line->script, "\n");
-        print_sending(line->answers, number, serial, out, &sent);
+/* The library waits for slaves outside the line, and the program doesn't: they are unplugged. */
+static void unplug_holders(struct line *line, uint8_t task) {
+    uint16_t station;
+    while (!zangjulf_held_by(&line->handle, task, 0, &station)) {
+        if (zangjulf_unplugged(&line->handle, station)) fail("a slave that isn't outside the line", 0);
+        model_unplugged(&line->model, station);
     }
-    const uint8_t *frame = out;
-    for (size_t i = 0; !number && i < sent.frames; i++, frame += zangjulf_frame_size(frame)) {
-        static uint8_t copy[ZANGJULF_FRAME];
-        memcpy(copy, frame, zangjulf_frame_size(frame));
-        model_sent(&line->model, &line->handle, copy);
-        keep(line, copy, zangjulf_frame_size(frame));
-    }
-    if (!number && frame != out + sent.size) fail("frames and their bytes", number);
 }
 
-/* There is no command for it: what is written of the line ends with ready tasks that are sent. */
-static void sending_ready(struct line *line, bool was_open) {
-    static struct waiting waits[ZANGJULF_TASKS];
-    struct zangjulf_sent_ready sent = {0, 0, {0xaa, 0xaaaa, 0xaaaa}};
-    size_t count = below(4) ? 1 + below(2) : below(10), room = below(8) ? some_length(30000) : ZANGJULF_FRAMES, first = 9;
-    uint8_t *tasks = last(&ins, count), mask = was_open ? ready_by_model(line, waits) : 0;
-    bool is_task = true;
-    for (size_t i = 0; i < count; i++) tasks[i] = below(6) ? (uint8_t)((i + below(2)) % 8) : (uint8_t)below(9), is_task &= tasks[i] < 8;
-    for (size_t i = count; i-- > 0;) if (is_task && !(mask >> tasks[i] & 1)) first = i;
-    uint8_t *out = out_room(room);
-    unsigned number = zangjulf_send_ready(&line->handle, tasks, count, out, room, &sent);
-    expect(number, was_open, "\0\x08\x24\x13\x1d\xfc\xfe");
-    if (number != ZANGJULF_MISUSED) expect_full(line, was_open, number, 1);
-    if (number) expect_untouched(out, room, number);
-    bool is_judged = was_open && number != ZANGJULF_MISUSED && number != ZANGJULF_CHANGES_FULL;
-    if (is_judged && (number == ZANGJULF_NO_SUCH_TASK) != !is_task) fail("a task that there isn't", number);
-    if (is_judged && is_task && (number == ZANGJULF_WAITS) != (first < count)) fail("a task that waits", number);
-    const struct zangjulf_waits *why = &sent.waits;
-    bool is_unwritten = why->task == 0xaa && why->blocks == 0xaaaa && why->outside == 0xaaaa;
-    if (number == ZANGJULF_WAITS) {
-        const struct waiting *own = &waits[tasks[first]];
-        if (why->task != tasks[first] || why->blocks != own->blocks || why->outside != own->outside) fail("what a task waits for", number);
-    } else if (number ? !is_unwritten : why->task || why->blocks || why->outside) fail("what no task waits for", number);
-    if (number == ZANGJULF_ROOM && sent.size <= room) fail("a sending's room", number);
-    if (number && number != ZANGJULF_ROOM && (sent.size || sent.frames)) fail("the frames of a refused sending", number);
+/* What a sending said of the task that waits, and of its bytes. */
+static void expect_sent(const struct zangjulf_sent *sent, unsigned number, const struct waiting *first, uint8_t task, size_t room, uint64_t serial) {
+    struct zangjulf_sent wanted;
+    memset(&wanted, number ? 0x77 : 0, sizeof wanted);
+    if (number == ZANGJULF_WAITS) wanted.waits = (struct zangjulf_waits){first->blocks, first->outside, task, {0}};
+    if (number == ZANGJULF_ROOM || !number) wanted.size = sent->size;
+    if (!number) wanted.frames = sent->frames, wanted.first_serial = serial;
+    if (memcmp(sent, &wanted, sizeof wanted)) fail("another sending than the model's", number);
+    if (number == ZANGJULF_ROOM && sent->size <= room) fail("a sending's room", number);
+}
+
+/* The table of a sending has its frames, one after another, as many as there is room for. */
+static void expect_table(const struct zangjulf_frame *table, size_t room, const struct zangjulf_sent *sent, const uint8_t *out) {
+    uint32_t at = 0;
+    for (uint32_t i = 0; i < (sent->frames < room ? sent->frames : room); at += table[i++].size)
+        if (table[i].offset != at || table[i].size != zangjulf_frame_size(out + at)) fail("where a frame lies", 0);
+    for (size_t i = sent->frames; i < room; i++)
+        if (table[i].offset != 0x77777777 || table[i].size != 0x77777777) fail("a frame that isn't there", 0);
+}
+
+/* The frames that were sent, one after another. */
+static void take_frames(struct line *line, const uint8_t *out, const struct zangjulf_sent *sent) {
+    static uint8_t copy[ZANGJULF_FRAME];
     const uint8_t *frame = out;
-    for (size_t i = 0; !number && i < sent.frames; i++, frame += zangjulf_frame_size(frame)) {
-        static uint8_t copy[ZANGJULF_FRAME];
+    for (size_t i = 0; i < sent->frames; i++, frame += zangjulf_frame_size(frame)) {
         memcpy(copy, frame, zangjulf_frame_size(frame));
         model_sent(&line->model, &line->handle, copy);
         keep(line, copy, zangjulf_frame_size(frame));
     }
-    if (!number && frame != out + sent.size) fail("frames and their bytes", number);
-    if (!number) end_script(line);
+    if (frame != out + sent->size) fail("frames and their bytes", 0);
+}
+
+/* Writes a sending as a command, if the program answers it as the library did. */
+static void print_sent(struct line *line, const uint8_t *tasks, size_t count, unsigned number, uint32_t owed, uint64_t serial, const uint8_t *out,
+                       const struct zangjulf_sent *sent) {
+    if (!number && owed) end_script(line);
+    if (!is_scripted(line, number) || (number == ZANGJULF_WAITS && !owed)) return;
+    say(line, "send");
+    for (size_t i = 0; i < count; i++) fprintf(line->script, " %u", tasks[i]);
+    fprintf(line->script, "\n");
+    if (number == ZANGJULF_WAITS || (number == ZANGJULF_SERIALS_SPENT && owed)) print_unprogrammed(line->answers, owed);
+    else print_sending(line->answers, number, serial, out, sent);
+}
+
+/* Draws tasks to send; whether each is one, and none is twice. */
+static uint8_t *some_tasks(size_t *count, bool *is_task, bool *is_misused) {
+    *count = below(4) ? 1 + below(2) : below(10);
+    uint8_t *tasks = last(&ins, *count);
+    unsigned seen = 0;
+    *is_task = true, *is_misused = !*count || *count > ZANGJULF_TASKS;
+    for (size_t i = 0; i < *count; i++) {
+        tasks[i] = below(6) ? (uint8_t)((i + below(2)) % 8) : (uint8_t)below(9);
+        *is_task &= tasks[i] < ZANGJULF_TASKS, *is_misused |= seen >> tasks[i] & 1, seen |= 1u << tasks[i];
+    }
+    return tasks;
+}
+
+static void sending(struct line *line, bool was_open) {
+    static struct waiting waits[ZANGJULF_TASKS];
+    bool is_task, is_misused;
+    size_t count, room = below(8) ? some_length(30000) : ZANGJULF_FRAMES, entries = below(4), first;
+    uint8_t *tasks = some_tasks(&count, &is_task, &is_misused), mask = was_open ? ready_by_model(line, waits) : 0;
+    struct zangjulf_frame table[4];
+    struct zangjulf_sent sent;
+    uint64_t serial = 0;
+    uint32_t owed = 0;
+    for (first = 0; first < count && is_task && mask >> tasks[first] & 1;) first++;
+    bool is_ready = first == count;
+    ignore(zangjulf_next_serial(&line->handle, &serial)), ignore(zangjulf_owed(&line->handle, &owed));
+    if (folder && was_open && is_ready && owed && below(500)) return; /* the script would end */
+    uint8_t *out = out_room(room);
+    memset(&sent, 0x77, sizeof sent), memset(table, 0x77, sizeof table);
+    unsigned number = zangjulf_send(&line->handle, tasks, count, out, room, table, entries, &sent);
+    expect(number, was_open, "\0\x08\x24\x13\x1d\xfe");
+    if (number) expect_untouched(out, room, number);
+    if (was_open && (number == ZANGJULF_MISUSED) != is_misused) fail("tasks that can't be sent together", number);
+    if (was_open && !is_misused && (number == ZANGJULF_NO_SUCH_TASK) != !is_task) fail("a task that there isn't", number);
+    if (was_open && !is_misused && is_task && (number == ZANGJULF_WAITS) != !is_ready) fail("a task that waits", number);
+    expect_sent(&sent, number, &waits[is_task && first < count ? tasks[first] : 0], is_task && first < count ? tasks[first] : 0, room, serial);
+    if (number && (table[0].size != 0x77777777 || table[0].offset != 0x77777777)) fail("the table of a refused sending", number);
+    print_sent(line, tasks, count, number, owed, serial, out, &sent);
+    if (number == ZANGJULF_WAITS && folder && !owed) unplug_holders(line, tasks[first]);
+    if (number) return;
+    expect_table(table, entries, &sent, out);
+    model_began(&line->model, tasks, count, serial);
+    take_frames(line, out, &sent);
 }
 
 static void arriving(struct line *line, bool was_open) {
@@ -351,34 +382,33 @@ static void arriving(struct line *line, bool was_open) {
     uint8_t *in = last(&ins, size);
     memcpy(in, from->frames[i], size);
     if (!below(6) && size) in[below(size)] = (uint8_t)draw();
-    struct zangjulf_outcome *outcomes = (void *)last(&words, room * sizeof *outcomes);
-    struct zangjulf_arrival arrival = {0, 0, 0, 0};
+    struct zangjulf_outcome *outcomes = memset(last(&words, room * sizeof *outcomes), 0x77, room * sizeof *outcomes);
+    struct zangjulf_arrival arrival, as_before;
+    memset(&arrival, 0x77, sizeof arrival), memset(&as_before, 0x77, sizeof as_before);
     unsigned number = zangjulf_arrive(&line->handle, in, size, outcomes, room, &arrival);
-    expect(number, was_open, "\0\x14\x15\x16\x17\x18\x19\x1a\x1b\x1c\x65\x66\x67\x68\xfc");
-    bool is_judged = !number || (number >= ZANGJULF_WRITE_DONE && number <= ZANGJULF_WRITTEN);
-    bool is_full = number == ZANGJULF_CHANGES_FULL;
-    if (number == ZANGJULF_MEMORY && !line->most_changes) fail("memory where no change is kept", number);
-    if (is_judged || is_full) expect_full(line, was_open, number, model_adds(&line->model, in));
-    if (is_judged && !model_arrived(&line->model, in, number, &arrival, outcomes, room)) fail("another arrival than the model's", number);
-    if (!number && line->most_changes) add_answers(&line->pending, in, outcomes, arrival.datagrams, room);
+    expect(number, was_open, "\0\x14\x15\x16\x17\x18\x19\x1a\x1b");
+    if (number && memcmp(&arrival, &as_before, sizeof arrival)) fail("a refused arrival", number);
+    if (!number && !model_arrived(&line->model, in, &arrival, outcomes, room)) fail("another arrival than the model's", number);
+    for (size_t k = number ? 0 : arrival.datagrams; k < room; k++)
+        if (outcomes[k].kind != 0x77 || outcomes[k].start != 0x7777) fail("an outcome of no datagram", number);
     if (!size || !is_scripted(line, number)) return;
     say(line, "arrive ");
     print_hex(line->script, in, size);
     fprintf(line->script, "\n");
-    print_arrival(line->answers, number, outcomes, arrival.datagrams);
+    print_arrival(line->answers, number, &arrival, outcomes);
 }
 
 static void reading(struct line *line, bool was_open) {
     size_t room = some_length(ZANGJULF_IMAGE), many = some_length(16);
     uint64_t *serials = (void *)last(&counts, many * sizeof *serials);
     struct zangjulf_image image = {0};
-    struct zangjulf_part part = {0, 0};
+    struct zangjulf_image_sizes sizes = {0, 0};
     uint8_t *out = out_room(room), task = (uint8_t)below(9);
     unsigned number = zangjulf_read(&line->handle, task, out, room, serials, many, &image);
     expect(number, was_open, "\0\x08\x1d");
-    zangjulf_part(&line->handle, task, &part);
+    ignore(zangjulf_image_sizes(&line->handle, task, &sizes));
     if (number) expect_untouched(out, room, number);
-    if (!number && image.size != (size_t)part.outputs + part.inputs) fail("the bytes of an image", number);
+    if (!number && image.size != (uint32_t)sizes.outputs + sizes.inputs) fail("the bytes of an image", number);
     if (!number && !model_reads(&line->model, &line->handle, task, &image, out, serials, many)) fail("another image than the model's", number);
     if (!number) expect_untouched(out + image.size, room - image.size, number);
     if (!is_scripted(line, number)) return;
@@ -387,22 +417,11 @@ static void reading(struct line *line, bool was_open) {
     print_image(line->answers, number, &line->handle, task, &image, out);
 }
 
-static void changing(struct line *line, bool was_open) {
-    size_t room = some_length(ZANGJULF_DATA);
-    struct zangjulf_change change = {0, 0, 0, 0};
-    uint8_t *out = out_room(room);
-    unsigned number = zangjulf_next_change(&line->handle, out, room, &change);
-    expect(number, was_open, "\0\x1d\x64");
-    if (number) expect_untouched(out, room, number);
-    if (was_open && !line->most_changes && number != ZANGJULF_NOTHING) fail("a change that wasn't to be kept", number);
-    if (was_open && line->most_changes && !is_next(&line->pending, number, &change, out, room)) fail("not the next change", number);
-}
-
 static void previewing(struct line *line, bool was_open) {
     size_t room = some_length(ZANGJULF_FRAME), size = 0;
     uint8_t *out = out_room(room), task = (uint8_t)below(9), datagram = (uint8_t)below(3);
     uint64_t serial = 0;
-    zangjulf_next_serial(&line->handle, &serial);
+    ignore(zangjulf_next_serial(&line->handle, &serial));
     unsigned number = zangjulf_preview(&line->handle, task, datagram, out, room, &size);
     expect(number, was_open, "\0\x64\x1d");
     if (number) expect_untouched(out, room, number);
@@ -411,11 +430,28 @@ static void previewing(struct line *line, bool was_open) {
     print_preview(line->answers, number, task, serial, out, size);
 }
 
+/* The places of a list of variables are those of each. */
+static void tabling(struct line *line, bool was_open) {
+    uint32_t variables[4];
+    size_t count = below(5), room = below(5);
+    struct zangjulf_place places[5], wanted;
+    memset(places, 0x77, sizeof places);
+    for (size_t i = 0; i < count; i++) variables[i] = below(3) ? (uint32_t)below(130) : (uint32_t)draw();
+    unsigned number = zangjulf_places(&line->handle, variables, count, places, room);
+    expect(number, was_open, "\0\xfe");
+    if (was_open && (number == ZANGJULF_MISUSED) != (room < count)) fail("the room of places", number);
+    for (size_t i = 0; i < 5; i++) {
+        memset(&wanted, !number && i < count ? 0 : 0x77, sizeof wanted);
+        if (!number && i < count) ignore(zangjulf_place(&line->handle, variables[i], &wanted));
+        if (memcmp(&places[i], &wanted, sizeof wanted)) fail("another place than the variable's", number);
+    }
+}
+
 static void looking(struct line *line, bool was_open) {
     struct zangjulf *handle = &line->handle;
     struct zangjulf_place place;
     struct zangjulf_datagram datagram;
-    struct zangjulf_part part;
+    struct zangjulf_image_sizes sizes;
     struct zangjulf_block block = {0, 0};
     uint16_t station = some_station();
     uint32_t position, variable = below(3) ? (uint32_t)below(130) : (uint32_t)draw();
@@ -428,7 +464,7 @@ static void looking(struct line *line, bool was_open) {
         print_place(line->answers, number, variable, &place);
     }
     expect(zangjulf_datagram(handle, (uint8_t)below(9), (uint8_t)below(17), &datagram), was_open, "\0\x64");
-    expect(zangjulf_part(handle, (uint8_t)draw(), &part), was_open, "\0");
+    expect(zangjulf_image_sizes(handle, (uint8_t)draw(), &sizes), was_open, "\0");
     expect(zangjulf_position(handle, station, &position), was_open, "\0\x05\x06");
     number = zangjulf_block(handle, station, (uint8_t)below(6), out, room, &block);
     expect(number, was_open, "\0\x64\x1d");
@@ -440,6 +476,7 @@ static void looking(struct line *line, bool was_open) {
         print_layout(line->answers, handle);
     }
     expect(zangjulf_station(handle, (uint32_t)below(9), &station), was_open, "\0\x64");
+    tabling(line, was_open);
 }
 
 /* What the model knows, and the library says of itself. */
@@ -452,7 +489,7 @@ static void counting(struct line *line, bool was_open) {
     if (was_open && !model_owes(&line->model, &line->handle)) fail("other owed blocks than the model's", number);
     uint16_t station = some_station(), share;
     uint32_t position;
-    number = zangjulf_share(&line->handle, task, datagram, station, &share);
+    number = zangjulf_expected_of(&line->handle, task, datagram, station, &share);
     expect(number, was_open, "\0\x64");
     if (!number && zangjulf_position(&line->handle, station, &position)) fail("a share of a slave that isn't in the line", number);
     if (was_open && !model_shares(&line->handle, task, datagram)) fail("other shares than the model's", number);
@@ -463,6 +500,27 @@ static uint64_t bits_of(const uint8_t *bytes, size_t bit, size_t bits) {
     uint64_t value = 0;
     for (size_t i = 0; i < bits; i++) value |= (uint64_t)(bytes[(bit + i) / 8] >> (bit + i) % 8 & 1) << i;
     return value;
+}
+
+/* The value of a variable in any bytes, and one that is put there, for an epoch that is one of its task's or isn't. */
+static void value_of(struct line *line, bool was_open, uint8_t *bytes, size_t size) {
+    struct zangjulf_place place = {0};
+    uint32_t variable = (uint32_t)below(130), epoch = 0;
+    uint64_t value = 0;
+    bool is_there = !zangjulf_place(&line->handle, variable, &place);
+    if (was_open) epoch = some_epoch(&line->model.epochs, place.task);
+    bool fits = is_there && epochs_fit(&line->model.epochs, place.task, epoch);
+    unsigned number = zangjulf_get_value(&line->handle, variable, epoch, bytes, size, &value);
+    unsigned short_of = (size_t)place.image_bit + place.bits > 8 * size ? ZANGJULF_ROOM : ZANGJULF_DONE;
+    expect(number, was_open, "\0\x64\x0f\x1d");
+    if (was_open && number != (!is_there ? ZANGJULF_NOTHING : !fits ? ZANGJULF_STALE_POST : short_of)) fail("the epoch of a value", number);
+    if (!number && value != bits_of(bytes, place.image_bit, place.bits)) fail("a value", number);
+    uint64_t most = place.bits < 64 ? ((uint64_t)1 << place.bits) - 1 : UINT64_MAX, put = below(4) ? ~value & most : draw();
+    unsigned wanted = !is_there ? ZANGJULF_NOTHING : !fits ? ZANGJULF_STALE_POST : place.is_input ? ZANGJULF_IS_INPUT : put > most ? ZANGJULF_TOO_WIDE : short_of;
+    number = zangjulf_put_value(&line->handle, variable, epoch, put, bytes, size);
+    expect(number, was_open, "\0\x64\x0f\x69\x6a\x1d");
+    if (was_open && number != wanted) fail("a value that is put", number);
+    if (!number && bits_of(bytes, place.image_bit, place.bits) != put) fail("a value that wasn't put", number);
 }
 
 /* Bits of any bytes, and values of variables, beside those that are taken bit by bit. */
@@ -480,16 +538,7 @@ static void bits(struct line *line, bool was_open) {
         bool is_new = !number && i >= bit && i < bit + count;
         if ((bytes[i / 8] >> i % 8 & 1) != (is_new ? (int)(put >> (i - bit) & 1) : before[i / 8] >> i % 8 & 1)) fail("a bit beside", number);
     }
-    struct zangjulf_place place;
-    uint32_t variable = (uint32_t)below(130);
-    number = zangjulf_get_value(&line->handle, variable, bytes, size, &value);
-    expect(number, was_open, "\0\x64\x1d");
-    if (number) return;
-    zangjulf_place(&line->handle, variable, &place);
-    if (value != bits_of(bytes, place.image_bit, place.bits)) fail("a value", number);
-    number = zangjulf_put_value(&line->handle, variable, ~value & bits_of((const uint8_t *)"\xff\xff\xff\xff\xff\xff\xff\xff", 0, place.bits), bytes, size);
-    if (number != (place.is_input ? ZANGJULF_IS_INPUT : ZANGJULF_DONE)) fail("a value that is put", number);
-    if (!number && bits_of(bytes, place.image_bit, place.bits) == value) fail("a value that wasn't put", number);
+    value_of(line, was_open, bytes, size);
 }
 
 /* What an edit was drawn to be. */
@@ -508,7 +557,7 @@ static unsigned asked_for(struct line *line, struct edit *edit, bool asks, struc
     case 0: return zangjulf_connect(handle, edit->alias, asks, cost);
     case 1: return zangjulf_disconnect(handle, edit->alias, asks, cost);
     case 2: return zangjulf_remap(handle, edit->station, edit->area, edit->pdos, edit->count, asks, cost);
-    case 3: return zangjulf_move(handle, edit->station, edit->area, edit->task, asks, cost);
+    case 3: return zangjulf_move_area(handle, edit->station, edit->area, edit->task, asks, cost);
     default: return zangjulf_declare(handle, edit->text, edit->size, asks, cost);
     }
 }
@@ -543,59 +592,55 @@ static void editing(struct line *line, bool was_open) {
     edit.text = some_group(&texts, &edit.size);
     struct zangjulf_cost would = {0}, cost = {0};
     uint32_t before = 0, epoch = 0;
-    zangjulf_epoch(&line->handle, &before);
+    ignore(zangjulf_epoch(&line->handle, &before));
     unsigned asked = asked_for(line, &edit, true, &would);
-    zangjulf_epoch(&line->handle, &epoch);
+    ignore(zangjulf_epoch(&line->handle, &epoch));
     if (epoch != before) fail("an edit that was only asked for", asked);
     bool is_left_out = edit.kind == 4 && folder && !declares;
     unsigned number = asked_for(line, &edit, is_left_out, &cost);
-    const char *allowed = "\0\x01\x02\x03\x04\x05\x06\x07\x08\x09\x0a\x0b\x0c\x0d\x1c\xfc";
-    expect(number, was_open, edit.kind == 4 ? "\0\x0d\x1c\x1f\x20\x21\x22\x23\xc9\xca\xcb\xcc\xcd\xce\xcf\xd0\xd1\xd2\xd4\xfc" : allowed);
-    if (!is_left_out && (!number || number == ZANGJULF_CHANGES_FULL)) expect_full(line, was_open, number, 1);
-    zangjulf_epoch(&line->handle, &epoch);
+    const char *allowed = "\0\x01\x02\x03\x04\x05\x06\x07\x08\x09\x0a\x0b\x0c\x0d\x1c";
+    expect(number, was_open, edit.kind == 4 ? "\0\x0d\x1c\x1f\x20\x21\x22\x23\xc9\xca\xcb\xcc\xcd\xce\xcf\xd0\xd1\xd2\xd4" : allowed);
+    ignore(zangjulf_epoch(&line->handle, &epoch));
     if (was_open && epoch != before + (!number && !is_left_out)) fail("an edit's epoch", number);
-    bool is_full = number == ZANGJULF_CHANGES_FULL;
-    if (is_full && (cost.epoch || (asked && asked != ZANGJULF_MEMORY))) fail("an edit of a line full of changes", asked);
-    if (!is_full && asked != ZANGJULF_MEMORY && number != ZANGJULF_MEMORY && (asked != number || would.moved != cost.moved)) fail("what an edit was told to do", number);
+    bool has_memory = asked != ZANGJULF_MEMORY && number != ZANGJULF_MEMORY;
+    if (has_memory && (asked != number || memcmp(&would, &cost, sizeof would))) fail("what an edit was told to do", number);
     if (is_left_out) return;
     if (!number && edit.kind == 4) model_declared(&line->model, edit.text, edit.size);
     if (!number) model_edited(&line->model, &line->handle);
-    if (!number && line->most_changes) add_edit(&line->pending);
+    if (!number && cost.waits != model_will_wait(&line->model, &line->handle)) fail("other tasks than the model's will wait", cost.waits);
     if (is_scripted(line, number)) print_edited(line, &edit, number, &cost);
 }
 
 static void call_once(struct line *line) {
-    bool was_open = line->handle.is_open;
+    bool was_open = line->handle.mark;
     left = below(12) ? -1 : (long)below(6);
     switch (below(was_open ? 2000 : 20) ? below(14) : 14) {
     case 10: case 11: case 12: case 13: draw_seat_call(&line->handle, &line->owner, &line->model.epochs, folder); break;
     case 0:
         if (below(folder ? 150 : 3)) call = "telling", asking(line, was_open);
         else if (below(2)) call = "clearing", clearing(line, was_open);
-        else call = "forget", forgetting(line, was_open);
+        else call = "slave_lost", losing(line, was_open);
         break;
     case 1: call = "post"; posting(line, was_open); break;
     case 2: case 3:
         if (below(folder ? 1500 : 3)) call = "next_write", writing(line, was_open);
         else call = "next_writes", writing_all(line, was_open);
         break;
-    case 4:
-        if (below(folder ? 500 : 2)) call = "send", sending(line, was_open);
-        else call = "send_ready", sending_ready(line, was_open);
+    case 4: case 8:
+        if (below(4)) call = "send", sending(line, was_open);
+        else call = "bits", bits(line, was_open);
         break;
     case 5: case 6: call = "arrive"; arriving(line, was_open); break;
     case 7: call = "read"; reading(line, was_open); break;
-    case 8: call = "next_change"; changing(line, was_open); break;
     case 9:
         if (!below(3)) call = "edit", editing(line, was_open);
         else if (below(2)) call = "looking", looking(line, was_open);
         else if (below(2)) call = "counting", counting(line, was_open);
         else if (below(2)) call = "waiting", waiting(line, was_open);
-        else if (below(2)) call = "bits", bits(line, was_open);
         else call = "preview", previewing(line, was_open);
         break;
     default:
-        if (below(4)) call = "open", opening(line);
+        if (was_open ? !below(4) : below(4)) call = "open", opening(line);
         else call = "close", closing(line);
     }
 }
@@ -608,7 +653,6 @@ int main(int count, char **arguments) {
     begin_draws(strtoull(arguments[3], NULL, 0));
     unsigned long most = strtoul(arguments[2], NULL, 0);
     long before = live;
-    for (int i = 0; i < LINES; i++) forget_pending(&lines[i].pending);
     for (calls = 0; calls < most; calls++) call_once(&lines[below(LINES)]);
     left = -1;
     for (int i = 0; i < LINES; i++) closing(&lines[i]);

@@ -14,6 +14,7 @@
 #define EXPECT(fact) ((fact) ? (void)0 : fail(__LINE__, #fact))
 #define AXES 0
 #define TOOLS 2
+#define SENSOR_TASK 3 /* of the screwdriver's inputs */
 #define GRIPPER 100
 #define SCREWDRIVER 101
 #define SILENT_CYCLES 1000
@@ -41,20 +42,20 @@ static void pass(size_t size) {
 /* Each byte of a task's outputs is this one. What the axes post is made for the epoch of the opening. */
 static void post(uint8_t task, uint8_t byte) {
     uint8_t outputs[ZANGJULF_DATA];
-    struct zangjulf_part part;
+    struct zangjulf_image_sizes sizes;
     uint32_t epoch = 0;
     EXPECT(task == AXES || zangjulf_epoch(&line, &epoch) == ZANGJULF_DONE);
-    EXPECT(zangjulf_part(&line, task, &part) == ZANGJULF_DONE);
-    memset(outputs, byte, part.outputs);
-    EXPECT(zangjulf_post(&line, task, epoch, outputs, part.outputs) == ZANGJULF_DONE);
+    EXPECT(zangjulf_image_sizes(&line, task, &sizes) == ZANGJULF_DONE);
+    memset(outputs, byte, sizes.outputs);
+    EXPECT(zangjulf_post(&line, task, epoch, outputs, sizes.outputs) == ZANGJULF_DONE);
 }
 
 /* A task is sent, and comes back good. */
 static void exchange(uint8_t task) {
-    struct zangjulf_sent_ready sent;
-    EXPECT(zangjulf_send_ready(&line, &task, 1, frame, sizeof frame, &sent) == ZANGJULF_DONE && sent.frames == 1);
+    struct zangjulf_sent sent;
+    EXPECT(zangjulf_send(&line, &task, 1, frame, sizeof frame, NULL, 0, &sent) == ZANGJULF_DONE && sent.frames == 1);
     pass(sent.size);
-    EXPECT(zangjulf_arrive(&line, frame, sent.size, outcomes, ZANGJULF_OUTCOMES, &arrival) == ZANGJULF_DONE);
+    EXPECT(zangjulf_arrive(&line, frame, sent.size, outcomes, ZANGJULF_OUTCOMES, &arrival) == ZANGJULF_DONE && arrival.kind == ZANGJULF_OF_TASKS);
     EXPECT(arrival.datagrams == 1 && outcomes[0].kind == ZANGJULF_INPUTS && outcomes[0].task == task);
 }
 
@@ -64,7 +65,7 @@ static bool write_blocks(void) {
     uint32_t owed;
     EXPECT(zangjulf_next_writes(&line, frame, sizeof frame, &writes) == ZANGJULF_DONE);
     pass(writes.size);
-    EXPECT(zangjulf_arrive(&line, frame, writes.size, outcomes, ZANGJULF_OUTCOMES, &arrival) == ZANGJULF_WRITTEN);
+    EXPECT(zangjulf_arrive(&line, frame, writes.size, outcomes, ZANGJULF_OUTCOMES, &arrival) == ZANGJULF_DONE && arrival.kind == ZANGJULF_OF_BLOCKS);
     EXPECT(zangjulf_owed(&line, &owed) == ZANGJULF_DONE);
     return !owed;
 }
@@ -82,28 +83,29 @@ static void goes_on(uint32_t epoch) {
     static uint8_t data[ZANGJULF_IMAGE];
     struct zangjulf_image image;
     EXPECT(zangjulf_read(&line, AXES, data, sizeof data, NULL, 0, &image) == ZANGJULF_DONE);
-    EXPECT(image.epoch == epoch && !image.task_epoch && image.has == 1);
+    EXPECT(image.epoch == epoch && !image.task_epoch && image.has == 1 && image.state == ZANGJULF_COMPLETE);
 }
 
-static void connect(uint16_t alias) {
+/* An edit, and the tasks that will wait once each slave that comes is cleared, as bits. */
+static void connect(uint16_t alias, uint8_t waits) {
     struct zangjulf_cost cost;
-    EXPECT(zangjulf_connect(&line, alias, false, &cost) == ZANGJULF_DONE);
+    EXPECT(zangjulf_connect(&line, alias, false, &cost) == ZANGJULF_DONE && cost.waits == waits);
     goes_on(cost.epoch);
 }
 
-static void disconnect(uint16_t alias) {
+static void disconnect(uint16_t alias, uint8_t waits) {
     struct zangjulf_cost cost;
-    EXPECT(zangjulf_disconnect(&line, alias, false, &cost) == ZANGJULF_DONE);
+    EXPECT(zangjulf_disconnect(&line, alias, false, &cost) == ZANGJULF_DONE && cost.waits == waits);
     goes_on(cost.epoch);
 }
 
 /* Whether a task waits for just these counts, and this slave alone holds it up. */
 static void waits(uint8_t task, uint32_t blocks, uint32_t outside, int slave) {
-    struct zangjulf_sent_ready sent;
+    struct zangjulf_sent sent;
     uint16_t station = 0;
     uint8_t ready;
     EXPECT(zangjulf_ready(&line, &ready) == ZANGJULF_DONE && !(ready >> task & 1));
-    EXPECT(zangjulf_send_ready(&line, &task, 1, frame, sizeof frame, &sent) == ZANGJULF_WAITS);
+    EXPECT(zangjulf_send(&line, &task, 1, frame, sizeof frame, NULL, 0, &sent) == ZANGJULF_WAITS);
     EXPECT(sent.waits.task == task && sent.waits.blocks == blocks && sent.waits.outside == outside);
     EXPECT(zangjulf_held_by(&line, task, 0, &station) == ZANGJULF_DONE && station == STATION[slave]);
     EXPECT(zangjulf_held_by(&line, task, 1, &station) == ZANGJULF_NOTHING);
@@ -117,12 +119,13 @@ static uint8_t ready_tasks(void) {
 
 static void open_line(const char *name) {
     static uint8_t text[1 << 16];
+    const struct zangjulf_options options = {sizeof options, 0};
     uint8_t task;
     FILE *in = fopen(name, "rb");
     if (!in) exit(2);
     size_t size = fread(text, 1, sizeof text, in);
     fclose(in);
-    EXPECT(zangjulf_open(&line, text, size, 0, &task) == ZANGJULF_DONE);
+    EXPECT(zangjulf_open(&line, &options, text, size, &task) == ZANGJULF_DONE);
     for (int i = 0; i < SLAVES; i++) {
         EXPECT(zangjulf_slave_start(memory[i], sizeof memory[i], 0) == ZANGJULF_DONE);
         memcpy(&memory[i][0x10], &STATION[i], 2);
@@ -140,7 +143,7 @@ static void comes(void) {
     answers[GRIPPER_SLAVE] = true;
     memcpy(&memory[GRIPPER_SLAVE][0x610], left, sizeof left);
     EXPECT(is_switched_off(GRIPPER_SLAVE, 2));
-    connect(GRIPPER);
+    connect(GRIPPER, 1 << TOOLS);
     waits(AXES, 2, 0, GRIPPER_SLAVE); /* anything may be in its two FMMUs */
     EXPECT(zangjulf_cleared(&line, STATION[GRIPPER_SLAVE]) == ZANGJULF_DONE);
     EXPECT(ready_tasks() == 0xfb);
@@ -158,8 +161,8 @@ static void comes(void) {
 static void is_silent(void) {
     struct zangjulf_counters before, after;
     EXPECT(is_switched_off(GRIPPER_SLAVE, 2));
-    disconnect(GRIPPER);
-    connect(GRIPPER);
+    disconnect(GRIPPER, 1 << TOOLS); /* until it is cleared */
+    connect(GRIPPER, 1 << TOOLS);
     EXPECT(zangjulf_cleared(&line, STATION[GRIPPER_SLAVE]) == ZANGJULF_DONE);
     answers[GRIPPER_SLAVE] = false;
     EXPECT(zangjulf_counters(&line, AXES, 0, &before) == ZANGJULF_DONE);
@@ -179,12 +182,12 @@ static void is_silent(void) {
 /* It is disconnected and stays on the wire. Task 0 goes on; the screwdriver's outputs come to task 2, which waits for the gripper. */
 static void stays_plugged(void) {
     struct zangjulf_cost cost;
-    disconnect(GRIPPER);
+    disconnect(GRIPPER, 1 << TOOLS);
     EXPECT(ready_tasks() == 0xfb);
     exchange(AXES);
     answers[SCREWDRIVER_SLAVE] = answers[SENSOR] = true;
-    connect(SCREWDRIVER);
-    EXPECT(zangjulf_move(&line, STATION[SCREWDRIVER_SLAVE], 0, TOOLS, false, &cost) == ZANGJULF_DONE);
+    connect(SCREWDRIVER, 1 << TOOLS | 1 << SENSOR_TASK);
+    EXPECT(zangjulf_move_area(&line, STATION[SCREWDRIVER_SLAVE], 0, TOOLS, false, &cost) == ZANGJULF_DONE);
     EXPECT(zangjulf_cleared(&line, STATION[SCREWDRIVER_SLAVE]) == ZANGJULF_DONE && zangjulf_cleared(&line, STATION[SENSOR]) == ZANGJULF_DONE);
     exchange(AXES);
     EXPECT(write_blocks());
@@ -203,29 +206,24 @@ static void is_cleared(void) {
     EXPECT(memory[SCREWDRIVER_SLAVE][0x1100] == 0x03 && memory[GRIPPER_SLAVE][0x1100] == 0x02);
 }
 
-/* Once more, but it is unplugged. Before that a sending that asks only that nothing is owed changes the gripper's outputs. */
+/* Once more, but it is unplugged: before that its task waits, and its outputs stay. */
 static void is_unplugged(void) {
-    const uint8_t tools = TOOLS;
-    struct zangjulf_sent sent;
-    disconnect(SCREWDRIVER);
+    disconnect(SCREWDRIVER, 1 << TOOLS | 1 << SENSOR_TASK);
     EXPECT(is_switched_off(SCREWDRIVER_SLAVE, 2) && is_switched_off(SENSOR, 1));
     EXPECT(zangjulf_cleared(&line, STATION[SCREWDRIVER_SLAVE]) == ZANGJULF_DONE && zangjulf_cleared(&line, STATION[SENSOR]) == ZANGJULF_DONE);
-    connect(GRIPPER);
+    connect(GRIPPER, 1 << TOOLS);
     EXPECT(zangjulf_unplugged(&line, STATION[GRIPPER_SLAVE]) == ZANGJULF_ALREADY_PRESENT);
     EXPECT(write_blocks());
-    disconnect(GRIPPER);
-    connect(SCREWDRIVER);
+    disconnect(GRIPPER, 1 << TOOLS);
+    connect(SCREWDRIVER, 1 << TOOLS | 1 << SENSOR_TASK);
     EXPECT(write_blocks());
     waits(TOOLS, 0, 2, GRIPPER_SLAVE);
-    post(TOOLS, 0x04);
-    EXPECT(zangjulf_send(&line, &tools, 1, frame, sizeof frame, &sent) == ZANGJULF_DONE);
-    pass(sent.size);
-    EXPECT(memory[SCREWDRIVER_SLAVE][0x1100] == 0x04 && memory[GRIPPER_SLAVE][0x1100] == 0x04);
+    EXPECT(memory[SCREWDRIVER_SLAVE][0x1100] == 0x03 && memory[GRIPPER_SLAVE][0x1100] == 0x02);
     answers[GRIPPER_SLAVE] = false;
     EXPECT(zangjulf_unplugged(&line, STATION[GRIPPER_SLAVE]) == ZANGJULF_DONE && ready_tasks() == 0xff);
     post(TOOLS, 0x05);
     exchange(TOOLS);
-    EXPECT(memory[SCREWDRIVER_SLAVE][0x1100] == 0x05 && memory[GRIPPER_SLAVE][0x1100] == 0x04);
+    EXPECT(memory[SCREWDRIVER_SLAVE][0x1100] == 0x05 && memory[GRIPPER_SLAVE][0x1100] == 0x02);
 }
 
 int main(int count, char **words) {
@@ -236,7 +234,7 @@ int main(int count, char **words) {
     stays_plugged();
     is_cleared();
     is_unplugged();
-    zangjulf_close(&line);
+    EXPECT(zangjulf_close(&line) == ZANGJULF_DONE);
     printf("gripper: the axes kept their cycles\n");
     return 0;
 }

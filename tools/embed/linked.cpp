@@ -11,7 +11,8 @@ int main() {
     bool is_same = major == ZANGJULF_VERSION_MAJOR && minor == ZANGJULF_VERSION_MINOR && patch == ZANGJULF_VERSION_PATCH;
     zangjulf line{};
     zangjulf_seat seat{};
-    bool is_closed = zangjulf_seat_open(&line, 0, &seat) == ZANGJULF_CLOSED && zangjulf_seat_post(&seat, 0, nullptr, 0) == ZANGJULF_CLOSED;
-    zangjulf_seat_close(&seat);
+    uint64_t number = 0;
+    bool is_closed = zangjulf_seat_open(&line, 0, &seat) == ZANGJULF_CLOSED && zangjulf_seat_post(&seat, 0, nullptr, 0, &number) == ZANGJULF_CLOSED &&
+                     zangjulf_seat_close(&seat) == ZANGJULF_CLOSED;
     return !(is_same && is_closed && zangjulf_abi() == ZANGJULF_ABI);
 }

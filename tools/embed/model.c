@@ -2,6 +2,8 @@
 
 #include <string.h>
 
+#include "ignore.h"
+
 static uint32_t number_at(const uint8_t *bytes, int count) {
     uint32_t value = 0;
     for (int i = 0; i < count; i++) value |= (uint32_t)bytes[i] << 8 * i;
@@ -78,17 +80,17 @@ static struct known *known_of(struct model *model, uint16_t station, uint8_t num
     return NULL;
 }
 
-void model_forgot(struct model *model, uint16_t station) {
+void model_lost(struct model *model, uint16_t station) {
     size_t left = 0;
     for (size_t i = 0; i < model->known_count; i++)
         if (model->known[i].station != station) model->known[left++] = model->known[i];
     model->known_count = left;
-    model->forgets++;
+    model->losses++;
 }
 
 void model_cleared(struct model *model, const struct zangjulf *line, uint16_t station) {
     uint32_t position;
-    if (!zangjulf_position(line, station, &position)) model_forgot(model, station);
+    if (!zangjulf_position(line, station, &position)) model_lost(model, station);
     readiness_cleared(&model->readiness, station);
 }
 
@@ -97,7 +99,7 @@ void model_unplugged(struct model *model, uint16_t station) { readiness_unplugge
 /* Register blocks are sent in one frame: of each this is the last write. */
 static void wrote(struct model *model, const struct zangjulf *line, struct sending *sending) {
     uint8_t bytes[16];
-    sending->forgets = model->forgets_at_write = model->forgets;
+    sending->losses = model->losses_at_write = model->losses;
     for (size_t i = 0; i < sending->count; i++) {
         struct head *head = &sending->heads[i];
         head->station = (uint16_t)head->address, head->start = (uint16_t)(head->address >> 16), head->expected = 1;
@@ -109,6 +111,10 @@ static void wrote(struct model *model, const struct zangjulf *line, struct sendi
         memcpy(known->bytes, bytes, head->length);
         readiness_wrote(&model->readiness, head->station, head->number, bytes, head->length);
     }
+}
+
+void model_began(struct model *model, const uint8_t *tasks, size_t count, uint64_t first_serial) {
+    for (size_t i = 0; i < count; i++) model->first_serials[tasks[i]] = first_serial;
 }
 
 void model_sent(struct model *model, const struct zangjulf *line, const uint8_t *frame) {
@@ -123,37 +129,30 @@ void model_sent(struct model *model, const struct zangjulf *line, const uint8_t 
         struct head *head = &sending->heads[i];
         struct zangjulf_datagram datagram = {0, 0, 0, 0};
         struct history *history = &model->tasks[task_of(head)][datagram_of(head)];
-        zangjulf_datagram(line, task_of(head), datagram_of(head), &datagram);
+        ignore(zangjulf_datagram(line, task_of(head), datagram_of(head), &datagram));
         head->expected = datagram.expected;
         history->sent = serial, history->was_sent = true;
         history->counters.sent++;
     }
 }
 
-/* The place of the sending that a frame answers, or MODEL_SENDINGS. */
-static size_t awaited_by(const struct model *model, const uint8_t *frame, const struct head *came, size_t count) {
+/* The sending that a frame answers, or NULL; it is answered then. */
+static const struct sending *answered_by(struct model *model, const uint8_t *frame, const struct head *came, size_t count) {
     uint64_t serial = serial_of(frame);
-    const struct sending *sending = &model->sendings[serial % MODEL_SENDINGS];
-    if (!sending->is_open || sending->serial != serial || sending->count != count) return MODEL_SENDINGS;
+    struct sending *sending = &model->sendings[serial % MODEL_SENDINGS];
+    if (!sending->is_open || sending->serial != serial || sending->count != count) return NULL;
     for (size_t i = 0; i < count; i++) {
         const struct head *head = &sending->heads[i];
-        if (head->command != came[i].command || head->address != came[i].address || head->length != came[i].length) return MODEL_SENDINGS;
+        if (head->command != came[i].command || head->address != came[i].address || head->length != came[i].length) return NULL;
     }
-    return serial % MODEL_SENDINGS;
-}
-
-/* The sending that a frame answers, or NULL; it is answered then. */
-static struct sending *answered_by(struct model *model, const uint8_t *frame, const struct head *came, size_t count) {
-    size_t place = awaited_by(model, frame, came, count);
-    if (place == MODEL_SENDINGS) return NULL;
-    model->sendings[place].is_open = false;
-    return &model->sendings[place];
+    sending->is_open = false;
+    return sending;
 }
 
 /* The last write of a block, where that is the one of this sending and no later write took the place of all before; else NULL. */
 static struct known *awaited_block(const struct model *model, const struct sending *sending, size_t i) {
     struct known *known = known_of((struct model *)model, sending->heads[i].station, sending->heads[i].number);
-    return !known || known->serial != sending->serial || sending->forgets < model->forgets_at_write ? NULL : known;
+    return !known || known->serial != sending->serial || sending->losses < model->losses_at_write ? NULL : known;
 }
 
 /* A write was answered well: its block is known. */
@@ -162,15 +161,7 @@ static void confirm(struct model *model, struct known *known) {
     readiness_answered(&model->readiness, known->station, known->number, known->bytes, known->size);
 }
 
-/* The answer to the write of one register block that came back with a working counter. */
-static unsigned write_answer(struct model *model, const struct sending *sending, uint16_t got) {
-    struct known *known = awaited_block(model, sending, 0);
-    if (!known) return ZANGJULF_STALE;
-    if (got == 1) confirm(model, known);
-    return got == 1 ? ZANGJULF_WRITE_DONE : ZANGJULF_WRITE_MISSED;
-}
-
-/* What an arrival is for a block of several that came back with a working counter. */
+/* What an arrival is for a register block that came back with a working counter. */
 static struct zangjulf_outcome block_outcome(const struct model *model, const struct sending *sending, size_t i, size_t place, uint16_t got) {
     const struct head *head = &sending->heads[i];
     struct zangjulf_outcome outcome;
@@ -208,57 +199,51 @@ static void judged(struct model *model, const struct zangjulf_outcome *outcome, 
     }
 }
 
-static bool is_same(const struct zangjulf_outcome *a, const struct zangjulf_outcome *b) {
-    return a->kind == b->kind && a->task == b->task && a->datagram == b->datagram && a->expected == b->expected && a->got == b->got &&
-           a->at == b->at && a->length == b->length && a->station == b->station && a->start == b->start;
+/* An outcome changes the model: what a block's slave has, or what a task reads. */
+static void take_outcome(struct model *model, const struct sending *sending, size_t i, const struct zangjulf_outcome *outcome, const uint8_t *frame) {
+    if (sending->heads[i].command != 5) judged(model, outcome, sending->serial, frame);
+    else if (outcome->kind == ZANGJULF_BLOCK_WRITTEN) confirm(model, awaited_block(model, sending, i));
 }
 
-bool model_arrived(struct model *model, const uint8_t *frame, unsigned number, const struct zangjulf_arrival *arrival,
-                   const struct zangjulf_outcome *outcomes, size_t room) {
+bool model_arrived(struct model *model, const uint8_t *frame, const struct zangjulf_arrival *arrival, const struct zangjulf_outcome *outcomes,
+                   size_t room) {
     struct head came[ZANGJULF_OUTCOMES];
     struct zangjulf_outcome expected[ZANGJULF_OUTCOMES];
+    struct zangjulf_arrival wanted = {.serial = serial_of(frame), .kind = ZANGJULF_STALE};
     size_t places[ZANGJULF_OUTCOMES], count = heads_of(frame, came, places);
     const struct sending *sending = answered_by(model, frame, came, count);
-    if (!sending) return number == ZANGJULF_STALE;
-    bool is_register_write = came[0].command == 5, has_answer = false;
-    if (is_register_write && count == 1) {
-        unsigned wanted = write_answer(model, sending, (uint16_t)number_at(frame + places[0] + came[0].length, 2));
-        const struct head *head = &sending->heads[0];
-        if (number != wanted) return false;
-        return number == ZANGJULF_STALE || (arrival->station == head->station && arrival->start == head->start && arrival->serial == sending->serial);
-    }
-    for (size_t i = 0; i < count; i++) {
+    bool is_of_blocks = came[0].command == 5, has_answer = false;
+    for (size_t i = 0; sending && i < count; i++) {
         uint16_t got = (uint16_t)number_at(frame + places[i] + came[i].length, 2);
-        expected[i] = is_register_write ? block_outcome(model, sending, i, places[i], got) : outcome_of(model, sending, i, places[i], got);
+        expected[i] = is_of_blocks ? block_outcome(model, sending, i, places[i], got) : outcome_of(model, sending, i, places[i], got);
         has_answer |= expected[i].kind != ZANGJULF_SENT_AGAIN;
     }
-    if (!has_answer) return number == ZANGJULF_STALE;
-    if (number != (is_register_write ? ZANGJULF_WRITTEN : ZANGJULF_DONE) || arrival->datagrams != count || arrival->serial != sending->serial) return false;
-    if (arrival->station || arrival->start) return false;
-    for (size_t i = 0; i < count; i++) {
-        if (!is_register_write) judged(model, &expected[i], sending->serial, frame);
-        else if (expected[i].kind == ZANGJULF_BLOCK_WRITTEN) confirm(model, awaited_block(model, sending, i));
-        if (i < room && !is_same(&outcomes[i], &expected[i])) return false;
+    if (has_answer) wanted.datagrams = (uint16_t)count, wanted.kind = is_of_blocks ? ZANGJULF_OF_BLOCKS : ZANGJULF_OF_TASKS;
+    if (memcmp(arrival, &wanted, sizeof wanted)) return false;
+    for (size_t i = 0; has_answer && i < count; i++) {
+        take_outcome(model, sending, i, &expected[i], frame);
+        if (i < room && memcmp(&outcomes[i], &expected[i], sizeof *outcomes)) return false;
     }
     return true;
 }
 
-size_t model_adds(const struct model *model, const uint8_t *frame) {
-    struct head came[ZANGJULF_OUTCOMES];
-    size_t places[ZANGJULF_OUTCOMES], count = heads_of(frame, came, places), good = 0;
-    size_t place = awaited_by(model, frame, came, count);
-    if (place == MODEL_SENDINGS || came[0].command == 5) return 0;
-    for (size_t i = 0; i < count; i++) {
-        uint16_t got = (uint16_t)number_at(frame + places[i] + came[i].length, 2);
-        good += outcome_of(model, &model->sendings[place], i, places[i], got).kind == ZANGJULF_INPUTS;
+/* How the data of a task compare with its last sending. */
+static uint8_t state_of(const struct model *model, uint8_t task, size_t datagrams) {
+    size_t current = 0;
+    for (size_t d = 0; d < datagrams; d++) {
+        const struct history *history = &model->tasks[task][d];
+        current += history->has_data && history->data >= model->first_serials[task];
     }
-    return good;
+    return current == datagrams ? ZANGJULF_COMPLETE : current ? ZANGJULF_INCOMPLETE : ZANGJULF_NO_DATA;
 }
 
 bool model_reads(const struct model *model, const struct zangjulf *line, uint8_t task, const struct zangjulf_image *image, const uint8_t *bytes,
                  const uint64_t *serials, size_t room) {
     static const uint8_t zeros[ZANGJULF_DATA];
-    if (image->epoch != model->epochs.epoch || image->task_epoch != model->epochs.tasks[task]) return false;
+    struct zangjulf_image wanted = {.first_serial = model->first_serials[task], .epoch = model->epochs.epoch, .task_epoch = model->epochs.tasks[task],
+                                    .size = image->size, .datagrams = image->datagrams, .has = image->has};
+    wanted.state = state_of(model, task, image->datagrams);
+    if (memcmp(image, &wanted, sizeof wanted)) return false;
     for (size_t d = 0; d < image->datagrams; d++) {
         const struct history *history = &model->tasks[task][d];
         struct zangjulf_datagram datagram;
@@ -300,7 +285,7 @@ bool model_shares(const struct zangjulf *line, uint8_t task, uint8_t number) {
     unsigned sum = 0;
     bool is_there = !zangjulf_datagram(line, task, number, &datagram);
     for (uint32_t position = 0; !zangjulf_station(line, position, &station); position++) {
-        unsigned answer = zangjulf_share(line, task, number, station, &share);
+        unsigned answer = zangjulf_expected_of(line, task, number, station, &share);
         if (answer != (is_there ? ZANGJULF_DONE : ZANGJULF_NOTHING)) return false;
         if (is_there && share != share_of(line, station, &datagram)) return false;
         sum += share;
@@ -316,6 +301,20 @@ static bool is_owed(const void *context, uint16_t station, uint8_t number, const
 
 void model_waits(const struct model *model, const struct zangjulf *line, uint8_t task, struct waiting *waiting) {
     readiness_of(&model->readiness, line, task, is_owed, model, waiting);
+}
+
+uint8_t model_will_wait(const struct model *model, const struct zangjulf *line) {
+    static struct readiness cleared;
+    static struct waiting waiting;
+    uint8_t waits = 0;
+    cleared = model->readiness;
+    for (size_t i = 0; i < cleared.declared_count; i++)
+        if (cleared.declared[i].has_come) readiness_cleared(&cleared, cleared.declared[i].station);
+    for (uint8_t task = 0; task < ZANGJULF_TASKS; task++) {
+        readiness_of(&cleared, line, task, is_owed, model, &waiting);
+        if (waiting.blocks || waiting.outside) waits |= (uint8_t)(1u << task);
+    }
+    return waits;
 }
 
 bool model_owes(const struct model *model, const struct zangjulf *line) {

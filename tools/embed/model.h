@@ -1,6 +1,7 @@
-/* A plain model of what a line answers about its sendings: of each arrival the outcomes with their names, counts and places in
- * the frame; each datagram's data, and how old they are; the counters, and what each slave adds to one; which register blocks are owed,
- * which tasks wait for them (readiness.h), and which tasks an edit changes (task_epochs.h).
+/* A plain model of what a line answers about its sendings: of each arrival its kind, and the outcomes with their names, counts and
+ * places in the frame; each datagram's data, how old they are, and how they compare with the task's last sending; the counters, and what
+ * each slave adds to one; which register blocks are owed, which tasks wait for them (readiness.h), also after an edit, and which tasks
+ * an edit changes (task_epochs.h).
  * It knows the frames and the answers that were accepted, and of the library only its configuration (datagrams, blocks,
  * stations). */
 #ifndef MODEL_H
@@ -29,12 +30,12 @@ struct head {
 struct sending {
     uint64_t serial;
     bool is_open;
-    uint64_t forgets; /* of register writes how many slaves were forgotten before */
+    uint64_t losses; /* of register writes how many slaves were lost before */
     size_t count;
     struct head heads[ZANGJULF_OUTCOMES];
 };
 
-/* The last write of a block since its slave was connected or last forgotten. */
+/* The last write of a block since its slave was connected or last lost. */
 struct known {
     uint16_t station;
     uint8_t number, size, bytes[16];
@@ -56,7 +57,8 @@ struct model {
     struct history tasks[ZANGJULF_TASKS][ZANGJULF_DATAGRAMS];
     struct known known[MODEL_BLOCKS];
     size_t known_count;
-    uint64_t forgets, forgets_at_write; /* how many slaves were forgotten, and how many before the last write */
+    uint64_t losses, losses_at_write; /* how many slaves were lost, and how many before the last write */
+    uint64_t first_serials[ZANGJULF_TASKS]; /* of each task's last sending the first serial, 0 before one */
     struct readiness readiness;
     struct task_epochs epochs;
 };
@@ -68,31 +70,35 @@ void model_declared(struct model *model, const uint8_t *text, size_t size);
 /* An edit was accepted: after it the line has other datagrams and blocks, and slaves may have gone. Tasks that it changes have no data. */
 void model_edited(struct model *model, const struct zangjulf *line);
 
-/* A slave was forgotten: its blocks' last writes say nothing any more. A write that is sent then takes the place of all before. */
-void model_forgot(struct model *model, uint16_t station);
+/* A slave lost its registers: its blocks' last writes say nothing any more. A write that is sent then takes the place of all before. */
+void model_lost(struct model *model, uint16_t station);
 
-/* A declared slave was cleared: one of the line is forgotten too. A slave outside the line was unplugged. */
+/* A declared slave was cleared: one of the line is lost too. A slave outside the line was unplugged. */
 void model_cleared(struct model *model, const struct zangjulf *line, uint16_t station);
 void model_unplugged(struct model *model, uint16_t station);
 
 /* What holds a task up. */
 void model_waits(const struct model *model, const struct zangjulf *line, uint8_t task, struct waiting *waiting);
 
+/* Bit t is set if task t would wait once each slave that came with the last edit were cleared. */
+uint8_t model_will_wait(const struct model *model, const struct zangjulf *line);
+
 /* The frame that writes the first owed blocks, as many as it holds, with a serial: it is put into `frame`, which has room for any
  * frame. Its bytes, and how many blocks it writes; 0 where nothing is owed. */
 size_t model_writes(const struct model *model, const struct zangjulf *line, uint64_t serial, uint8_t *frame, size_t *blocks);
 
+/* Tasks were sent in frames from a serial on. */
+void model_began(struct model *model, const uint8_t *tasks, size_t count, uint64_t first_serial);
+
 /* A frame of tasks, or of register writes, was sent. */
 void model_sent(struct model *model, const struct zangjulf *line, const uint8_t *frame);
 
-/* Whether an arrival is answered as the model says: with this number, and with these outcomes, as many as there was room for. */
-bool model_arrived(struct model *model, const uint8_t *frame, unsigned number, const struct zangjulf_arrival *arrival,
-                   const struct zangjulf_outcome *outcomes, size_t room);
+/* Whether the arrival of a frame that can be read is as the model says: its kind, and these outcomes, as many as there was room for. */
+bool model_arrived(struct model *model, const uint8_t *frame, const struct zangjulf_arrival *arrival, const struct zangjulf_outcome *outcomes,
+                   size_t room);
 
-/* How many good answers an arrival would be, of a frame that can be read; nothing changes. */
-size_t model_adds(const struct model *model, const uint8_t *frame);
-
-/* Whether the epochs of a read are right, and the task's datagrams have data as the read says, these bytes, of these sendings. */
+/* Whether the epochs and the state of a read are right, and the task's datagrams have data as the read says, these bytes, of these
+ * sendings. */
 bool model_reads(const struct model *model, const struct zangjulf *line, uint8_t task, const struct zangjulf_image *image, const uint8_t *bytes,
                  const uint64_t *serials, size_t room);
 

@@ -15,7 +15,7 @@ by_cmake() {
     cat >"$outside/CMakeLists.txt" <<END
 cmake_minimum_required(VERSION 3.16)
 project(outside C)
-find_package(Zangjulf 0.1 REQUIRED)
+find_package(Zangjulf 0.2 REQUIRED)
 find_package(Zangjulf 99 QUIET)
 if(Zangjulf_FOUND)
     message(FATAL_ERROR "version 99 is found")
@@ -42,7 +42,7 @@ installed() {
     report $? "the shared object has another name than libzangjulf.so.$abi"
     ! nm -D --defined-only "$scratch/prefix/lib/libzangjulf.so" | grep -v " A ZANGJULF_$abi\$" | grep -qv ' zangjulf_'
     report $? "the shared object exports more than the header's calls"
-    cp tools/embed/play.c tools/embed/words.c tools/embed/words.h "$outside/"
+    cp tools/embed/play.c tools/embed/words.c tools/embed/words.h tools/embed/ignore.h "$outside/"
     ! has pkg-config || by_pkg_config
     ! { has cmake && has make; } || by_cmake
 }

@@ -5,6 +5,7 @@
 #include <stdlib.h>
 #include <string.h>
 
+#include "ignore.h"
 #include "words.h"
 
 #define MOST_INPUT 4194304
@@ -23,25 +24,44 @@ static unsigned long number_in(const char *word) {
 static void write_block(void) {
     uint64_t serial = 0;
     struct zangjulf_write write;
-    zangjulf_next_serial(&line, &serial);
+    ignore(zangjulf_next_serial(&line, &serial));
     unsigned number = zangjulf_next_write(&line, out, sizeof out, &write);
     print_write(stdout, number, serial, out, write.size);
 }
 
+/* The library waits for slaves outside the line, and the program doesn't: they are unplugged. */
+static void unplug_holders(uint8_t task) {
+    uint16_t station;
+    while (!zangjulf_held_by(&line, task, 0, &station))
+        if (zangjulf_unplugged(&line, station)) exit(1);
+}
+
+/* The program sends no task while a block is owed. */
 static void send_tasks(char **words, size_t count) {
     uint8_t tasks[ZANGJULF_TASKS];
     uint64_t serial = 0;
-    struct zangjulf_sent sent = {0, 0, 0};
+    uint32_t owed = 0;
+    struct zangjulf_sent sent;
     if (count > ZANGJULF_TASKS) exit(2);
-    for (size_t i = 0; i < count; i++) tasks[i] = (uint8_t)number_in(words[i]);
-    zangjulf_next_serial(&line, &serial);
-    unsigned number = zangjulf_send(&line, tasks, count, out, sizeof out, &sent);
+    for (size_t i = 0; i < count; i++) {
+        tasks[i] = (uint8_t)number_in(words[i]);
+        if (tasks[i] < ZANGJULF_TASKS) continue;
+        print_refusal(stdout, ZANGJULF_NO_SUCH_TASK);
+        return;
+    }
+    ignore(zangjulf_next_serial(&line, &serial)), ignore(zangjulf_owed(&line, &owed));
+    if (owed) {
+        print_unprogrammed(stdout, owed);
+        return;
+    }
+    for (size_t i = 0; i < count; i++) unplug_holders(tasks[i]);
+    unsigned number = zangjulf_send(&line, tasks, count, out, sizeof out, NULL, 0, &sent);
     print_sending(stdout, number, serial, out, &sent);
 }
 
 static void arrive(const char *word) {
     struct zangjulf_outcome outcomes[ZANGJULF_OUTCOMES];
-    struct zangjulf_arrival arrival = {0, 0, 0, 0};
+    struct zangjulf_arrival arrival = {0};
     size_t size = strlen(word) / 2;
     for (size_t i = 0; i < size; i++) {
         unsigned byte;
@@ -49,7 +69,7 @@ static void arrive(const char *word) {
         out[i] = (uint8_t)byte;
     }
     unsigned number = zangjulf_arrive(&line, out, size, outcomes, ZANGJULF_OUTCOMES, &arrival);
-    print_arrival(stdout, number, outcomes, arrival.datagrams);
+    print_arrival(stdout, number, &arrival, outcomes);
 }
 
 /* The program prints the data of the present epoch alone. */
@@ -65,7 +85,7 @@ static void read_task(unsigned long task) {
 static void show(unsigned long task, unsigned long datagram) {
     uint64_t serial = 0;
     size_t size = 0;
-    zangjulf_next_serial(&line, &serial);
+    ignore(zangjulf_next_serial(&line, &serial));
     unsigned number = zangjulf_preview(&line, (uint8_t)task, (uint8_t)datagram, out, sizeof out, &size);
     print_preview(stdout, number, (unsigned)task, serial, out, size);
 }
@@ -96,7 +116,7 @@ static unsigned edit(char **words, size_t count, bool asks, struct zangjulf_cost
     if (!strcmp(words[0], "disconnect")) return zangjulf_disconnect(&line, (uint16_t)number_in(words[1]), asks, cost);
     uint16_t station = (uint16_t)number_in(words[1]);
     uint8_t area = (uint8_t)number_in(words[2]);
-    if (!strcmp(words[0], "move")) return zangjulf_move(&line, station, area, (uint8_t)number_in(words[3]), asks, cost);
+    if (!strcmp(words[0], "move")) return zangjulf_move_area(&line, station, area, (uint8_t)number_in(words[3]), asks, cost);
     for (size_t i = 3; i < count && i < 67; i++) pdos[i - 3] = (uint16_t)number_in(words[i]);
     return zangjulf_remap(&line, station, area, pdos, count - 3, asks, cost);
 }
@@ -115,7 +135,7 @@ static void run(char **words, size_t count) {
         struct zangjulf_cost would, cost;
         unsigned asked = edit(words, count, true, &would);
         unsigned number = edit(words, count, false, &cost);
-        if (!number) zangjulf_next_serial(&line, &first);
+        if (!number) ignore(zangjulf_next_serial(&line, &first));
         print_edit(asked, &would, number, &cost);
     } else exit(2);
 }
@@ -133,7 +153,8 @@ int main(void) {
     char *end = end_of_project(input);
     if (!end) return 2;
     uint8_t task = 0;
-    unsigned number = zangjulf_open(&line, (const uint8_t *)input, (size_t)(end - input), 0, &task);
+    struct zangjulf_options options = {sizeof options, 0};
+    unsigned number = zangjulf_open(&line, &options, (const uint8_t *)input, (size_t)(end - input), &task);
     if (number) {
         print_opening(stdout, number, task);
         return 3;
@@ -146,6 +167,5 @@ int main(void) {
             words[count++] = word;
         if (count) run(words, count);
     }
-    zangjulf_close(&line);
-    return 0;
+    return zangjulf_close(&line);
 }

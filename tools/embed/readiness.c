@@ -63,7 +63,7 @@ static void present(struct readiness *readiness, const struct zangjulf *line, ui
     }
     for (uint8_t number = 1; slave && !slave->is_in_line && !zangjulf_block(line, station, number, bytes, sizeof bytes, &block); number += 2)
         held_of(readiness, station, number)->is_unknown = true;
-    if (slave) slave->is_in_line = true, slave->is_unplugged = false;
+    if (slave) slave->has_come = !slave->is_in_line, slave->is_in_line = true, slave->is_unplugged = false;
 }
 
 void readiness_edited(struct readiness *readiness, const struct zangjulf *line) {
@@ -71,7 +71,7 @@ void readiness_edited(struct readiness *readiness, const struct zangjulf *line) 
     uint32_t position;
     for (uint32_t i = 0; !zangjulf_station(line, i, &station); i++) present(readiness, line, station);
     for (size_t i = 0; i < readiness->declared_count; i++)
-        if (zangjulf_position(line, readiness->declared[i].station, &position)) readiness->declared[i].is_in_line = false;
+        if (zangjulf_position(line, readiness->declared[i].station, &position)) readiness->declared[i].is_in_line = readiness->declared[i].has_come = false;
 }
 
 void readiness_wrote(struct readiness *readiness, uint16_t station, uint8_t number, const uint8_t *bytes, size_t size) {

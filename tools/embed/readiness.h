@@ -20,10 +20,10 @@ struct held {
     bool is_unknown;
 };
 
-/* A declared slave. */
+/* A declared slave; whether it came with the last edit. */
 struct declared {
     uint16_t station;
-    bool is_in_line, is_unplugged;
+    bool is_in_line, is_unplugged, has_come;
 };
 
 struct readiness {

@@ -1,9 +1,10 @@
-/* An owner and two tasks, three threads at full speed. In task 0 the owner posts a number and shows it, so many times as the argument
- * says; in each eighth turn the frame is sent, and comes back with the number as its inputs. The task views: each image must be whole,
- * its inputs must be of the last eighth turn before its outputs, and it is never older than the image before. In task 1 the thread
- * posts numbers, and the owner takes them: the outputs that it views must be whole, and never go back. Each number is 512 bytes
- * long. At the end the last number that was shown is viewed, and the last one that was posted is put out. Then lines are closed by
- * their owners while the tasks use and close their seats. It ends with status 1 at the first image or answer that can't be. */
+/* An owner, two tasks and a thread that only looks, four threads at full speed. In task 0 the owner posts a number and shows it, so many
+ * times as the argument says; in each eighth turn the frame is sent, and comes back with the number as its inputs. The task views: each
+ * image must be whole, of the showing that its number says, its inputs of the last eighth turn before its outputs. In task 1 the thread
+ * posts numbers, and the owner takes the newest: images must say which post was taken last, and never go back. The fourth thread looks
+ * at task 1: the outputs must be those of the post that was taken last. Each number is 512 bytes long. At the end the last number that was
+ * shown is viewed, and the last one that was posted is put out. Then lines are closed by their owners while the tasks use and close
+ * their seats. It ends with status 1 at the first image or answer that can't be. */
 #include <pthread.h>
 #include <stdatomic.h>
 #include <stdio.h>
@@ -23,12 +24,13 @@ static void fail(int line, const char *fact) {
 }
 
 static struct zangjulf line;
-static struct zangjulf_seat seats[2];
+#define SEATS 3 /* the third one only looks */
+static struct zangjulf_seat seats[SEATS];
 static atomic_bool is_over;
 
 /* What a task's thread did. */
 struct count {
-    uint64_t views, images, posts, full;
+    uint64_t views, images, posts;
     uint64_t number; /* the newest that it viewed, or posted */
 };
 
@@ -71,7 +73,7 @@ static void program(void) {
     struct zangjulf_arrival arrival;
     while (!zangjulf_next_write(&line, frame, sizeof frame, &write)) {
         frame[26 + frame[22]] = 1;
-        EXPECT(zangjulf_arrive(&line, frame, write.size, &outcome, 1, &arrival) == ZANGJULF_WRITE_DONE);
+        EXPECT(zangjulf_arrive(&line, frame, write.size, &outcome, 1, &arrival) == ZANGJULF_DONE && outcome.kind == ZANGJULF_BLOCK_WRITTEN);
     }
 }
 
@@ -82,52 +84,66 @@ static void exchange(void) {
     struct zangjulf_outcome outcome;
     struct zangjulf_arrival arrival;
     struct zangjulf_sent sent;
-    EXPECT(zangjulf_send(&line, task, 1, frame, sizeof frame, &sent) == ZANGJULF_DONE);
+    EXPECT(zangjulf_send(&line, task, 1, frame, sizeof frame, NULL, 0, &sent) == ZANGJULF_DONE);
     memcpy(frame + 26 + BYTES, frame + 26, BYTES);
     frame[26 + 2 * BYTES] = 3;
     EXPECT(zangjulf_arrive(&line, frame, sent.size, &outcome, 1, &arrival) == ZANGJULF_DONE && outcome.kind == ZANGJULF_INPUTS);
 }
 
-/* The number that a seat's newest image was posted with. */
-static uint64_t view(struct zangjulf_seat *seat, struct count *count, bool has_inputs) {
+/* The seat's newest image, and the number of the outputs to begin with. */
+static uint64_t view(struct zangjulf_seat *seat, struct count *count, bool has_inputs, struct zangjulf_view *view) {
     uint8_t image[2 * BYTES], outputs[BYTES];
-    struct zangjulf_view view;
     uint64_t serial = 0;
-    EXPECT(zangjulf_seat_view(seat, image, sizeof image, &serial, 1, &view) == ZANGJULF_DONE && view.size == sizeof image && view.outputs == BYTES);
+    EXPECT(zangjulf_seat_view(seat, image, sizeof image, &serial, 1, view) == ZANGJULF_DONE && view->size == sizeof image && view->outputs == BYTES);
     EXPECT(zangjulf_seat_outputs(seat, outputs, sizeof outputs) == ZANGJULF_DONE);
     uint64_t number = number_of(outputs);
-    EXPECT(view.has == has_inputs);
+    EXPECT(view->has == has_inputs && view->state == (has_inputs ? ZANGJULF_COMPLETE : ZANGJULF_NO_DATA));
     /* eight register blocks are written before, each in a frame of its own: serials 0 to 7 */
-    if (has_inputs) EXPECT(number_of(image + BYTES) == number / 8 * 8 && serial == number / 8 + 8);
+    if (has_inputs) EXPECT(number_of(image + BYTES) == number / 8 * 8 && serial == number / 8 + 8 && view->first_serial == serial);
     count->views++;
     return number;
 }
 
+/* The first image is shown when the seat is opened, and the second one has number 0. */
 static void *views(void *given) {
     struct count *count = given;
+    struct zangjulf_view seen;
     while (!atomic_load_explicit(&is_over, memory_order_relaxed)) {
-        uint64_t number = view(&seats[0], count, true);
-        EXPECT(number >= count->number);
+        uint64_t number = view(&seats[0], count, true, &seen);
+        EXPECT(number >= count->number && seen.showing == number + 2);
         count->images += number > count->number;
         count->number = number;
     }
     return NULL;
 }
 
+/* The outputs to begin with are those of the thread's own last post. */
 static void *posts(void *given) {
     struct count *count = given;
+    struct zangjulf_view seen;
     uint8_t outputs[BYTES];
-    uint64_t seen = 0;
+    uint64_t taken = 0, posted = 0;
     while (!atomic_load_explicit(&is_over, memory_order_relaxed)) {
-        write_number(outputs, count->number + 1);
-        uint8_t answer = zangjulf_seat_post(&seats[1], 0, outputs, sizeof outputs);
-        EXPECT(answer == ZANGJULF_DONE || answer == ZANGJULF_NO_SPARE);
-        if (answer) count->full++;
-        else count->posts++, count->number++;
-        uint64_t number = view(&seats[1], count, false);
-        EXPECT(number >= seen && number <= count->number);
-        count->images += number > seen;
-        seen = number;
+        write_number(outputs, ++count->number);
+        EXPECT(zangjulf_seat_post(&seats[1], 0, outputs, sizeof outputs, &posted) == ZANGJULF_DONE && posted == count->number);
+        count->posts++;
+        EXPECT(view(&seats[1], count, false, &seen) == posted);
+        EXPECT(seen.taken >= taken && seen.taken <= posted && !seen.is_refused);
+        count->images += seen.taken > taken;
+        taken = seen.taken;
+    }
+    return NULL;
+}
+
+static void *looks(void *given) {
+    struct count *count = given;
+    struct zangjulf_view seen;
+    uint64_t showing = 0;
+    while (!atomic_load_explicit(&is_over, memory_order_relaxed)) {
+        uint64_t number = view(&seats[2], count, false, &seen);
+        EXPECT(number >= count->number && seen.showing >= showing && !seen.taken);
+        count->images += seen.showing > showing;
+        count->number = number, showing = seen.showing;
     }
     return NULL;
 }
@@ -144,59 +160,68 @@ static void show(uint64_t number) {
 
 static void open_line(void) {
     static char text[1 << 16];
+    struct zangjulf_options options = {sizeof options, 1};
     struct count none = {0};
+    struct zangjulf_view seen;
     uint8_t task;
-    EXPECT(zangjulf_open(&line, (const uint8_t *)text, write_project(text, sizeof text), 0, &task) == ZANGJULF_DONE);
+    EXPECT(zangjulf_open(&line, &options, (const uint8_t *)text, write_project(text, sizeof text), &task) == ZANGJULF_DONE);
     program();
     for (uint8_t i = 0; i < 2; i++) EXPECT(zangjulf_seat_open(&line, i, &seats[i]) == ZANGJULF_DONE);
+    EXPECT(zangjulf_look_open(&line, 0, 1, &seats[2]) == ZANGJULF_DONE);
     show(0);
-    for (uint8_t i = 0; i < 2; i++) EXPECT(view(&seats[i], &none, !i) == 0);
+    for (uint8_t i = 0; i < SEATS; i++) EXPECT(view(&seats[i], &none, !i, &seen) == 0 && seen.showing == 2);
 }
 
-/* A task that uses its seat and closes it, whatever its owner does: its posts are taken, wait, or find no line. */
+/* A thread that uses its seat and closes it, whatever its owner does. Once an image says that the line is closed, posts find none. */
 static void *leaves(void *given) {
     struct zangjulf_seat *seat = given;
+    struct zangjulf_view seen;
     struct count count = {0};
-    uint8_t outputs[BYTES] = {0}, answer = ZANGJULF_DONE;
+    uint8_t outputs[BYTES] = {0}, says = ZANGJULF_LINE_OPEN;
     for (int i = 0; i < 20; i++) {
-        view(seat, &count, seat == &seats[0]);
-        uint8_t next = zangjulf_seat_post(seat, 0, outputs, sizeof outputs);
-        EXPECT(next == ZANGJULF_DONE || next == ZANGJULF_NO_SPARE || next == ZANGJULF_CLOSED);
-        EXPECT(answer != ZANGJULF_CLOSED || next == ZANGJULF_CLOSED);
-        answer = next;
+        uint64_t number = 0;
+        view(seat, &count, seat == &seats[0], &seen);
+        EXPECT(seen.line >= says && seen.line <= ZANGJULF_LINE_CLOSED);
+        says = seen.line;
+        unsigned wanted = seat == &seats[2] ? ZANGJULF_MISUSED : says == ZANGJULF_LINE_OPEN ? ZANGJULF_DONE : ZANGJULF_CLOSED;
+        EXPECT(zangjulf_seat_post(seat, 0, outputs, sizeof outputs, &number) == wanted);
     }
-    zangjulf_seat_close(seat);
+    EXPECT(zangjulf_seat_close(seat) == ZANGJULF_DONE);
     return NULL;
 }
 
 /* The line is closed at the same time. */
 static void close_at_once(void) {
-    pthread_t threads[2];
+    pthread_t threads[SEATS];
     struct zangjulf_taken taken;
     open_line();
-    for (int i = 0; i < 2; i++) EXPECT(!pthread_create(&threads[i], NULL, leaves, &seats[i]));
+    for (int i = 0; i < SEATS; i++) EXPECT(!pthread_create(&threads[i], NULL, leaves, &seats[i]));
     for (int i = 0; i < 10; i++) EXPECT(zangjulf_take_posts(&line, &taken) == ZANGJULF_DONE && zangjulf_show(&line) == ZANGJULF_DONE);
-    zangjulf_close(&line);
-    for (int i = 0; i < 2; i++) EXPECT(!pthread_join(threads[i], NULL));
+    EXPECT(zangjulf_close(&line) == ZANGJULF_DONE);
+    for (int i = 0; i < SEATS; i++) EXPECT(!pthread_join(threads[i], NULL));
 }
 
 int main(int count, char **words) {
-    struct count counts[2] = {{0}};
-    pthread_t threads[2];
+    static void *(*const work[SEATS])(void *) = {views, posts, looks};
+    struct count counts[SEATS] = {{0}};
+    struct zangjulf_view seen;
+    pthread_t threads[SEATS];
     uint64_t shows = count == 2 ? strtoull(words[1], NULL, 10) : 0;
     EXPECT(shows > 0);
     open_line();
-    EXPECT(!pthread_create(&threads[0], NULL, views, &counts[0]) && !pthread_create(&threads[1], NULL, posts, &counts[1]));
+    for (int i = 0; i < SEATS; i++) EXPECT(!pthread_create(&threads[i], NULL, work[i], &counts[i]));
     for (uint64_t number = 1; number <= shows; number++) show(number);
     atomic_store(&is_over, true);
-    for (int i = 0; i < 2; i++) EXPECT(!pthread_join(threads[i], NULL));
-    EXPECT(view(&seats[0], &counts[0], true) == shows);
+    for (int i = 0; i < SEATS; i++) EXPECT(!pthread_join(threads[i], NULL));
+    EXPECT(view(&seats[0], &counts[0], true, &seen) == shows);
     show(shows);
-    EXPECT(view(&seats[1], &counts[1], false) == counts[1].number);
-    printf("seat_threads: %llu shows; %llu views, %llu images; %llu posts, %llu more that found four waiting\n", (unsigned long long)shows, (unsigned long long)counts[0].views,
-           (unsigned long long)counts[0].images, (unsigned long long)counts[1].posts, (unsigned long long)counts[1].full);
-    zangjulf_close(&line);
-    for (int i = 0; i < 2; i++) zangjulf_seat_close(&seats[i]);
+    EXPECT(view(&seats[2], &counts[2], false, &seen) == counts[1].number);
+    EXPECT(view(&seats[1], &counts[1], false, &seen) == counts[1].number && seen.taken == counts[1].number && seen.showing == shows + 3);
+    printf("seat_threads: %llu shows; %llu views, %llu images; %llu posts, %llu of them seen as taken; %llu looks, %llu images\n", (unsigned long long)shows,
+           (unsigned long long)counts[0].views, (unsigned long long)counts[0].images, (unsigned long long)counts[1].posts,
+           (unsigned long long)counts[1].images, (unsigned long long)counts[2].views, (unsigned long long)counts[2].images);
+    EXPECT(zangjulf_close(&line) == ZANGJULF_DONE);
+    for (int i = 0; i < SEATS; i++) EXPECT(zangjulf_seat_close(&seats[i]) == ZANGJULF_DONE);
     for (int i = 0; i < CLOSINGS; i++) close_at_once();
-    return !(counts[0].images && counts[1].posts);
+    return !(counts[0].images && counts[1].posts && counts[2].images);
 }

@@ -4,6 +4,7 @@
 #include <string.h>
 
 #include "draws.h"
+#include "ignore.h"
 #include "readiness.h"
 
 /* A number is taken into a figure. Figures of different numbers are different, but for one pair in 2^64. */
@@ -15,9 +16,9 @@ static void take(uint64_t *figure, uint64_t number) {
 /* How many outputs and inputs a task has, and its datagrams, whose addresses are those of their numbers. */
 static void take_datagrams(uint64_t *figure, const struct zangjulf *line, uint8_t task) {
     struct zangjulf_datagram datagram;
-    struct zangjulf_part part = {0, 0};
-    zangjulf_part(line, task, &part);
-    take(figure, part.outputs), take(figure, part.inputs);
+    struct zangjulf_image_sizes sizes = {0, 0};
+    ignore(zangjulf_image_sizes(line, task, &sizes));
+    take(figure, sizes.outputs), take(figure, sizes.inputs);
     for (uint8_t number = 0; !zangjulf_datagram(line, task, number, &datagram); number++)
         take(figure, datagram.address), take(figure, datagram.length), take(figure, datagram.expected), take(figure, datagram.offset);
 }
@@ -40,7 +41,7 @@ static void take_areas(uint64_t *figures, const struct zangjulf *line, uint16_t 
     struct zangjulf_block manager, fmmu;
     uint8_t managed[16], mapped[16];
     for (uint8_t number = 0; !zangjulf_block(line, station, number, managed, sizeof managed, &manager); number += 2) {
-        zangjulf_block(line, station, number + 1, mapped, sizeof mapped, &fmmu);
+        if (zangjulf_block(line, station, number + 1, mapped, sizeof mapped, &fmmu)) return;
         uint8_t named = named_by(mapped, fmmu.size), task = 0;
         while (task < ZANGJULF_TASKS && !(named >> task & 1)) task++;
         if (task == ZANGJULF_TASKS) continue;
@@ -103,9 +104,13 @@ uint8_t epochs_edited(struct task_epochs *epochs, const struct zangjulf *line) {
     return changed;
 }
 
+bool epochs_fit(const struct task_epochs *epochs, uint8_t task, uint32_t epoch) {
+    return epoch >= epochs->tasks[task] && epoch <= epochs->epoch;
+}
+
 unsigned epochs_post(const struct task_epochs *epochs, uint8_t task, uint32_t epoch, size_t size, size_t outputs) {
     if (task >= ZANGJULF_TASKS) return ZANGJULF_NO_SUCH_TASK;
-    if (epoch < epochs->tasks[task] || epoch > epochs->epoch) return ZANGJULF_STALE_POST;
+    if (!epochs_fit(epochs, task, epoch)) return ZANGJULF_STALE_POST;
     return size == outputs ? ZANGJULF_DONE : ZANGJULF_POST_LENGTH;
 }
 

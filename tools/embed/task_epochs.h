@@ -3,6 +3,7 @@
 #ifndef TASK_EPOCHS_H
 #define TASK_EPOCHS_H
 
+#include <stdbool.h>
 #include <stddef.h>
 #include <stdint.h>
 
@@ -24,6 +25,9 @@ void epochs_declared(struct task_epochs *epochs, const uint8_t *text, size_t siz
 
 /* An edit was accepted. Bit t of what is returned is set if the edit changed task t. */
 uint8_t epochs_edited(struct task_epochs *epochs, const struct zangjulf *line);
+
+/* Whether an epoch is one for posts and values of a task, 0 to 7. */
+bool epochs_fit(const struct task_epochs *epochs, uint8_t task, uint32_t epoch);
 
 /* What a post of so many bytes for an epoch is answered, beside the task's number of output bytes. */
 unsigned epochs_post(const struct task_epochs *epochs, uint8_t task, uint32_t epoch, size_t size, size_t outputs);

@@ -1,5 +1,7 @@
 #include "words.h"
 
+#include "ignore.h"
+
 static const char *const FAULTS[] = {
     "", "UnknownAlias", "AlreadyPresent", "NotPresent", "Mandatory", "UnknownStation", "Absent", "NoSuchArea", "NoSuchTask",
     "UnknownPdo", "RepeatedPdo", "AreaTooBig", "TooManyDatagrams", "EpochsSpent", "", "StalePost", "PostLength",
@@ -58,15 +60,11 @@ void print_write(FILE *to, unsigned number, uint64_t serial, const uint8_t *fram
     else print_frame(to, "sent", serial, frame, size);
 }
 
+void print_unprogrammed(FILE *to, uint32_t owed) { fprintf(to, "refused 17 Unprogrammed %u\n", owed); }
+
 void print_sending(FILE *to, unsigned number, uint64_t serial, const uint8_t *frames, const struct zangjulf_sent *sent) {
-    if (number == ZANGJULF_UNPROGRAMMED) {
-        print_fault(to, number);
-        fprintf(to, " %u\n", sent->owed);
-    } else if (number) {
-        print_refusal(to, number);
-    } else if (!sent->frames) {
-        fprintf(to, "no frame\n");
-    }
+    if (number) print_refusal(to, number);
+    else if (!sent->frames) fprintf(to, "no frame\n");
     for (size_t i = 0; !number && i < sent->frames; i++) {
         print_frame(to, "sent", serial + i, frames, zangjulf_frame_size(frames));
         frames += zangjulf_frame_size(frames);
@@ -77,20 +75,16 @@ static void print_outcome(FILE *to, const struct zangjulf_outcome *outcome) {
     switch (outcome->kind) {
     case ZANGJULF_INPUTS: fprintf(to, "inputs %u %u\n", outcome->task, outcome->datagram); break;
     case ZANGJULF_WRONG_COUNT: fprintf(to, "wrong count %u %u\n", outcome->expected, outcome->got); break;
+    case ZANGJULF_BLOCK_WRITTEN: fprintf(to, "write done\n"); break;
+    case ZANGJULF_BLOCK_MISSED: fprintf(to, "write missed\n"); break;
     default: fprintf(to, "stale\n");
     }
 }
 
-void print_arrival(FILE *to, unsigned number, const struct zangjulf_outcome *outcomes, size_t count) {
-    switch (number) {
-    case ZANGJULF_DONE:
-        for (size_t i = 0; i < count; i++) print_outcome(to, &outcomes[i]);
-        break;
-    case ZANGJULF_WRITE_DONE: fprintf(to, "write done\n"); break;
-    case ZANGJULF_WRITE_MISSED: fprintf(to, "write missed\n"); break;
-    case ZANGJULF_STALE: fprintf(to, "stale\n"); break;
-    default: print_refusal(to, number);
-    }
+void print_arrival(FILE *to, unsigned number, const struct zangjulf_arrival *arrival, const struct zangjulf_outcome *outcomes) {
+    if (number) print_refusal(to, number);
+    else if (arrival->kind == ZANGJULF_STALE) fprintf(to, "stale\n");
+    for (size_t i = 0; !number && i < arrival->datagrams; i++) print_outcome(to, &outcomes[i]);
 }
 
 void print_image(FILE *to, unsigned number, const struct zangjulf *line, uint8_t task, const struct zangjulf_image *image, const uint8_t *data) {
@@ -101,7 +95,7 @@ void print_image(FILE *to, unsigned number, const struct zangjulf *line, uint8_t
     fprintf(to, "epoch %u\n", image->epoch);
     for (size_t i = 0; i < image->datagrams; i++) {
         struct zangjulf_datagram datagram = {0, 0, 0, 0};
-        zangjulf_datagram(line, task, (uint8_t)i, &datagram);
+        ignore(zangjulf_datagram(line, task, (uint8_t)i, &datagram));
         fprintf(to, "slot %zu ", i);
         if (image->has >> i & 1) print_hex(to, data + datagram.offset, datagram.length);
         else fprintf(to, "none");
@@ -126,14 +120,14 @@ void print_place(FILE *to, unsigned number, uint32_t variable, const struct zang
 
 void print_layout(FILE *to, const struct zangjulf *line) {
     uint32_t epoch = 0;
-    zangjulf_epoch(line, &epoch);
+    ignore(zangjulf_epoch(line, &epoch));
     fprintf(to, "epoch %u\n", epoch);
     for (unsigned task = 0; task < ZANGJULF_TASKS; task++) {
-        struct zangjulf_part part = {0, 0};
+        struct zangjulf_image_sizes sizes = {0, 0};
         struct zangjulf_datagram datagram;
         if (zangjulf_datagram(line, (uint8_t)task, 0, &datagram)) continue;
-        zangjulf_part(line, (uint8_t)task, &part);
-        fprintf(to, "task %u parts %u %u\n", task, part.outputs, part.inputs);
+        ignore(zangjulf_image_sizes(line, (uint8_t)task, &sizes));
+        fprintf(to, "task %u parts %u %u\n", task, sizes.outputs, sizes.inputs);
         for (unsigned i = 0; !zangjulf_datagram(line, (uint8_t)task, (uint8_t)i, &datagram); i++)
             fprintf(to, "datagram %u address 0x%08x length %u expected %u\n", i, datagram.address, datagram.length, datagram.expected);
     }

@@ -22,11 +22,14 @@ void print_declaration(FILE *to, unsigned number, const struct zangjulf_cost *co
 /* A register write, whose frame was sent with a serial. */
 void print_write(FILE *to, unsigned number, uint64_t serial, const uint8_t *frame, size_t size);
 
+/* Tasks that are not sent, since so many register blocks are owed: the program sends none then. */
+void print_unprogrammed(FILE *to, uint32_t owed);
+
 /* Tasks that were sent, from a serial on. */
 void print_sending(FILE *to, unsigned number, uint64_t serial, const uint8_t *frames, const struct zangjulf_sent *sent);
 
-/* An arrival. */
-void print_arrival(FILE *to, unsigned number, const struct zangjulf_outcome *outcomes, size_t count);
+/* An arrival of frames of tasks, or of a register write. */
+void print_arrival(FILE *to, unsigned number, const struct zangjulf_arrival *arrival, const struct zangjulf_outcome *outcomes);
 
 /* What a task of an open line reads. */
 void print_image(FILE *to, unsigned number, const struct zangjulf *line, uint8_t task, const struct zangjulf_image *image, const uint8_t *data);

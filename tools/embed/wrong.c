@@ -14,7 +14,7 @@ uint8_t __wrap_zangjulf_place(const struct zangjulf *handle, uint32_t variable, 
 #endif
 
 /* another byte in an image, an age of another sending, a datagram that has data though it has none; a task's epoch that each edit raises;
- * data that are gone after an edit that doesn't change the task */
+ * data that are gone after an edit that doesn't change the task; old data that are complete */
 #ifdef WRONG_read
 uint8_t __real_zangjulf_read(const struct zangjulf *handle, uint8_t task, uint8_t *out, size_t length, uint64_t *serials, size_t room, struct zangjulf_image *image);
 uint8_t __wrap_zangjulf_read(const struct zangjulf *handle, uint8_t task, uint8_t *out, size_t length, uint64_t *serials, size_t room, struct zangjulf_image *image) {
@@ -28,6 +28,8 @@ uint8_t __wrap_zangjulf_read(const struct zangjulf *handle, uint8_t task, uint8_
     image->task_epoch = image->epoch;
 #elif WRONG_read == 5
     if (image->epoch > image->task_epoch) image->has = 0;
+#elif WRONG_read == 6
+    if (image->has) image->state = ZANGJULF_COMPLETE;
 #else
     if (image->size) out[image->size - 1] ^= 1;
 #endif
@@ -35,54 +37,72 @@ uint8_t __wrap_zangjulf_read(const struct zangjulf *handle, uint8_t task, uint8_
 }
 #endif
 
-#ifdef WRONG_connect /* another number of moved blocks, also where it is only asked for */
-uint8_t __real_zangjulf_connect(struct zangjulf *handle, uint16_t alias, bool asks, struct zangjulf_cost *cost);
-uint8_t __wrap_zangjulf_connect(struct zangjulf *handle, uint16_t alias, bool asks, struct zangjulf_cost *cost) {
-    unsigned number = __real_zangjulf_connect(handle, alias, asks, cost);
-    if (!number) cost->moved++;
+#ifdef WRONG_places /* the first place for each */
+uint8_t __real_zangjulf_places(const struct zangjulf *handle, const uint32_t *variables, size_t count, struct zangjulf_place *places, size_t room);
+uint8_t __wrap_zangjulf_places(const struct zangjulf *handle, const uint32_t *variables, size_t count, struct zangjulf_place *places, size_t room) {
+    unsigned number = __real_zangjulf_places(handle, variables, count, places, room);
+    for (size_t i = 1; !number && i < count; i++) places[i] = places[0];
     return (uint8_t)number;
 }
 #endif
 
-/* a register write that no slave took is answered as done; an outcome of another datagram; a block among several that no slave
- * took is answered as written */
+/* another number of moved blocks, also where it is only asked for; no task that will wait */
+#ifdef WRONG_connect
+uint8_t __real_zangjulf_connect(struct zangjulf *handle, uint16_t alias, bool asks, struct zangjulf_cost *cost);
+uint8_t __wrap_zangjulf_connect(struct zangjulf *handle, uint16_t alias, bool asks, struct zangjulf_cost *cost) {
+    unsigned number = __real_zangjulf_connect(handle, alias, asks, cost);
+#if WRONG_connect == 2
+    if (!number) cost->waits = 0;
+#else
+    if (!number) cost->moved++;
+#endif
+    return (uint8_t)number;
+}
+#endif
+
+/* a register block that no slave took is answered as written; an outcome of another datagram; register writes that are answered as tasks */
 #ifdef WRONG_arrive
 uint8_t __real_zangjulf_arrive(struct zangjulf *handle, const uint8_t *bytes, size_t length, struct zangjulf_outcome *outcomes, size_t room, struct zangjulf_arrival *arrival);
 uint8_t __wrap_zangjulf_arrive(struct zangjulf *handle, const uint8_t *bytes, size_t length, struct zangjulf_outcome *outcomes, size_t room, struct zangjulf_arrival *arrival) {
     unsigned number = __real_zangjulf_arrive(handle, bytes, length, outcomes, room, arrival);
+    if (number) return (uint8_t)number;
 #if WRONG_arrive == 2
-    if (!number && room && outcomes->kind != ZANGJULF_INPUTS) outcomes->datagram ^= 1;
-    return (uint8_t)number;
+    if (arrival->datagrams && room && outcomes->kind != ZANGJULF_INPUTS) outcomes->datagram ^= 1;
 #elif WRONG_arrive == 3
-    if (number == ZANGJULF_WRITTEN && room && outcomes->kind == ZANGJULF_BLOCK_MISSED) outcomes->kind = ZANGJULF_BLOCK_WRITTEN;
+    if (arrival->kind == ZANGJULF_OF_BLOCKS) arrival->kind = ZANGJULF_OF_TASKS;
+#else
+    if (arrival->datagrams && room && outcomes->kind == ZANGJULF_BLOCK_MISSED) outcomes->kind = ZANGJULF_BLOCK_WRITTEN;
+#endif
+    return (uint8_t)number;
+}
+#endif
+
+/* a task that waits is answered as one that there isn't; one register outside the line is left out; a frame that lies elsewhere; a serial
+ * of another sending */
+#ifdef WRONG_send
+uint8_t __real_zangjulf_send(struct zangjulf *handle, const uint8_t *tasks, size_t count, uint8_t *out, size_t length, struct zangjulf_frame *table, size_t room, struct zangjulf_sent *sent);
+uint8_t __wrap_zangjulf_send(struct zangjulf *handle, const uint8_t *tasks, size_t count, uint8_t *out, size_t length, struct zangjulf_frame *table, size_t room, struct zangjulf_sent *sent) {
+    unsigned number = __real_zangjulf_send(handle, tasks, count, out, length, table, room, sent);
+#if WRONG_send == 2
+    if (number == ZANGJULF_WAITS && sent->waits.outside) sent->waits.outside--;
+    return (uint8_t)number;
+#elif WRONG_send == 3
+    if (!number && sent->frames && room) table[0].offset++;
+    return (uint8_t)number;
+#elif WRONG_send == 4
+    if (!number) sent->first_serial++;
     return (uint8_t)number;
 #else
-    return number == ZANGJULF_WRITE_MISSED ? ZANGJULF_WRITE_DONE : (uint8_t)number;
+    return number == ZANGJULF_WAITS ? ZANGJULF_NO_SUCH_TASK : (uint8_t)number;
 #endif
 }
 #endif
 
-#ifdef WRONG_send /* a sending of a line that is full of changes */
-uint8_t __real_zangjulf_send(struct zangjulf *handle, const uint8_t *tasks, size_t count, uint8_t *out, size_t length, struct zangjulf_sent *sent);
-uint8_t __wrap_zangjulf_send(struct zangjulf *handle, const uint8_t *tasks, size_t count, uint8_t *out, size_t length, struct zangjulf_sent *sent) {
-    unsigned number = __real_zangjulf_send(handle, tasks, count, out, length, sent);
-    return number == ZANGJULF_CHANGES_FULL ? ZANGJULF_NO_SUCH_TASK : (uint8_t)number;
-}
-#endif
-
-#ifdef WRONG_open /* one change more than the line is opened to keep */
-uint8_t __real_zangjulf_open(struct zangjulf *handle, const uint8_t *text, size_t length, uint32_t changes, uint8_t *task);
-uint8_t __wrap_zangjulf_open(struct zangjulf *handle, const uint8_t *text, size_t length, uint32_t changes, uint8_t *task) {
-    return __real_zangjulf_open(handle, text, length, changes && changes < UINT32_MAX ? changes + 1 : changes, task);
-}
-#endif
-
-#ifdef WRONG_next_change /* changes that are never handed out */
-uint8_t __real_zangjulf_next_change(struct zangjulf *handle, uint8_t *out, size_t length, struct zangjulf_change *change);
-uint8_t __wrap_zangjulf_next_change(struct zangjulf *handle, uint8_t *out, size_t length, struct zangjulf_change *change) {
-    static unsigned calls;
-    if (++calls % 50 == 0) __real_zangjulf_next_change(handle, out, length, change);
-    return __real_zangjulf_next_change(handle, out, length, change);
+#ifdef WRONG_open /* a line that is opened over an open one */
+uint8_t __real_zangjulf_open(struct zangjulf *handle, const struct zangjulf_options *options, const uint8_t *text, size_t length, uint8_t *task);
+uint8_t __wrap_zangjulf_open(struct zangjulf *handle, const struct zangjulf_options *options, const uint8_t *text, size_t length, uint8_t *task) {
+    if (handle->mark && zangjulf_close(handle)) return ZANGJULF_MISUSED;
+    return __real_zangjulf_open(handle, options, text, length, task);
 }
 #endif
 
@@ -107,7 +127,7 @@ uint8_t __wrap_zangjulf_next_writes(struct zangjulf *handle, uint8_t *out, size_
     unsigned number = __real_zangjulf_next_writes(handle, out, length, writes);
     if (!number) writes->blocks++;
 #else
-    struct zangjulf_write write = {0, {0, 0, 0}};
+    struct zangjulf_write write = {0};
     unsigned number = zangjulf_next_write(handle, out, length, &write);
     if (!number || number == ZANGJULF_ROOM) writes->size = write.size;
     if (!number) writes->blocks = 1;
@@ -116,13 +136,13 @@ uint8_t __wrap_zangjulf_next_writes(struct zangjulf *handle, uint8_t *out, size_
 }
 #endif
 
-#ifdef WRONG_forget /* nothing is forgotten, or another slave too */
-uint8_t __real_zangjulf_forget(struct zangjulf *handle, uint16_t station);
-uint8_t __wrap_zangjulf_forget(struct zangjulf *handle, uint16_t station) {
+#ifdef WRONG_slave_lost /* nothing is owed again, or another slave's blocks too */
+uint8_t __real_zangjulf_slave_lost(struct zangjulf *handle, uint16_t station);
+uint8_t __wrap_zangjulf_slave_lost(struct zangjulf *handle, uint16_t station) {
     uint32_t position;
     unsigned number = zangjulf_position(handle, station, &position);
-#if WRONG_forget == 2
-    for (uint16_t other; !number && !zangjulf_station(handle, position, &other); position++) __real_zangjulf_forget(handle, other);
+#if WRONG_slave_lost == 2
+    for (uint16_t other; !number && !zangjulf_station(handle, position, &other); position++) number = __real_zangjulf_slave_lost(handle, other);
 #endif
     return (uint8_t)number;
 }
@@ -143,11 +163,11 @@ uint8_t __real_zangjulf_post(struct zangjulf *handle, uint8_t task, uint32_t epo
 uint8_t __wrap_zangjulf_post(struct zangjulf *handle, uint8_t task, uint32_t epoch, const uint8_t *bytes, size_t length) {
 #if WRONG_post == 2
     uint32_t now = epoch;
-    zangjulf_epoch(handle, &now);
+    if (zangjulf_epoch(handle, &now)) return ZANGJULF_CLOSED;
     return __real_zangjulf_post(handle, task, epoch < now ? now + 1 : epoch, bytes, length);
 #elif WRONG_post == 3
     uint32_t now = epoch;
-    zangjulf_epoch(handle, &now);
+    if (zangjulf_epoch(handle, &now)) return ZANGJULF_CLOSED;
     return __real_zangjulf_post(handle, task, epoch > now ? now : epoch, bytes, length);
 #else
     unsigned number = __real_zangjulf_post(handle, task, epoch, bytes, length);
@@ -157,11 +177,11 @@ uint8_t __wrap_zangjulf_post(struct zangjulf *handle, uint8_t task, uint32_t epo
 #endif
 
 #ifdef WRONG_close /* memory that is never freed */
-void __real_zangjulf_close(struct zangjulf *handle);
-void __wrap_zangjulf_close(struct zangjulf *handle) {
+uint8_t __real_zangjulf_close(struct zangjulf *handle);
+uint8_t __wrap_zangjulf_close(struct zangjulf *handle) {
     static void *lost;
-    if (handle->is_open && !lost) lost = malloc(1);
-    __real_zangjulf_close(handle);
+    if (handle->mark && !lost) lost = malloc(1);
+    return __real_zangjulf_close(handle);
 }
 #endif
 
@@ -174,11 +194,11 @@ uint8_t __wrap_zangjulf_counters(const struct zangjulf *handle, uint8_t task, ui
 }
 #endif
 
-#ifdef WRONG_share /* a slave that writes adds 1 */
-uint8_t __real_zangjulf_share(const struct zangjulf *handle, uint8_t task, uint8_t number, uint16_t station, uint16_t *share);
-uint8_t __wrap_zangjulf_share(const struct zangjulf *handle, uint8_t task, uint8_t number, uint16_t station, uint16_t *share) {
-    unsigned answer = __real_zangjulf_share(handle, task, number, station, share);
-    if (!answer && *share > 1) --*share;
+#ifdef WRONG_expected_of /* a slave that takes outputs adds 1 less */
+uint8_t __real_zangjulf_expected_of(const struct zangjulf *handle, uint8_t task, uint8_t datagram, uint16_t station, uint16_t *expected);
+uint8_t __wrap_zangjulf_expected_of(const struct zangjulf *handle, uint8_t task, uint8_t datagram, uint16_t station, uint16_t *expected) {
+    unsigned answer = __real_zangjulf_expected_of(handle, task, datagram, station, expected);
+    if (!answer && *expected > 1) --*expected;
     return (uint8_t)answer;
 }
 #endif
@@ -190,12 +210,26 @@ uint8_t __wrap_zangjulf_owed_block(const struct zangjulf *handle, uint32_t index
 }
 #endif
 
-#ifdef WRONG_get_value /* a value from its datagram's place, without the offset of the datagram */
-uint8_t __wrap_zangjulf_get_value(const struct zangjulf *handle, uint32_t variable, const uint8_t *image, size_t length, uint64_t *value) {
+#ifdef WRONG_get_value /* a value of the place a bit further */
+uint8_t __real_zangjulf_get_value(const struct zangjulf *handle, uint32_t variable, uint32_t epoch, const uint8_t *image, size_t length, uint64_t *value);
+uint8_t __wrap_zangjulf_get_value(const struct zangjulf *handle, uint32_t variable, uint32_t epoch, const uint8_t *image, size_t length, uint64_t *value) {
     struct zangjulf_place place;
-    unsigned number = zangjulf_place(handle, variable, &place);
-    if (number) return (uint8_t)number;
-    return zangjulf_get_bits(image, length, place.bit + 1u, place.bits, value) ? ZANGJULF_ROOM : ZANGJULF_DONE;
+    unsigned number = __real_zangjulf_get_value(handle, variable, epoch, image, length, value);
+    if (!number && !zangjulf_place(handle, variable, &place) && zangjulf_get_bits(image, length, place.image_bit + 1, place.bits, value)) *value = 0;
+    return (uint8_t)number;
+}
+#endif
+
+#ifdef WRONG_put_value /* a value for an epoch to come; a value for an epoch that is over */
+uint8_t __real_zangjulf_put_value(const struct zangjulf *handle, uint32_t variable, uint32_t epoch, uint64_t value, uint8_t *outputs, size_t length);
+uint8_t __wrap_zangjulf_put_value(const struct zangjulf *handle, uint32_t variable, uint32_t epoch, uint64_t value, uint8_t *outputs, size_t length) {
+    uint32_t now = epoch;
+    if (zangjulf_epoch(handle, &now)) return ZANGJULF_CLOSED;
+#if WRONG_put_value == 2
+    return __real_zangjulf_put_value(handle, variable, epoch < now ? now : epoch, value, outputs, length);
+#else
+    return __real_zangjulf_put_value(handle, variable, epoch > now ? now : epoch, value, outputs, length);
+#endif
 }
 #endif
 
@@ -215,23 +249,42 @@ uint8_t __wrap_zangjulf_seat_open(struct zangjulf *handle, uint8_t task, struct 
 }
 #endif
 
-#ifdef WRONG_seat_close /* a seat that is never freed */
-void __wrap_zangjulf_seat_close(struct zangjulf_seat *seat) {
-    seat->is_open = false;
-    seat->at = NULL;
+#ifdef WRONG_look_open /* a seat of another task; a seat with another number */
+uint8_t __real_zangjulf_look_open(struct zangjulf *handle, uint32_t number, uint8_t task, struct zangjulf_seat *seat);
+uint8_t __wrap_zangjulf_look_open(struct zangjulf *handle, uint32_t number, uint8_t task, struct zangjulf_seat *seat) {
+#if WRONG_look_open == 2
+    return __real_zangjulf_look_open(handle, number ? number - 1 : 0, task, seat);
+#else
+    return __real_zangjulf_look_open(handle, number, task < ZANGJULF_TASKS ? task ^ 1 : task, seat);
+#endif
 }
 #endif
 
-#ifdef WRONG_show /* a showing that is dropped */
+#ifdef WRONG_seat_close /* a seat that is never freed */
+uint8_t __wrap_zangjulf_seat_close(struct zangjulf_seat *seat) {
+    uint8_t answer = seat->mark ? ZANGJULF_DONE : ZANGJULF_CLOSED;
+    seat->mark = 0;
+    seat->at = NULL;
+    return answer;
+}
+#endif
+
+#ifdef WRONG_show /* a showing that is dropped; a showing that counts twice */
 uint8_t __real_zangjulf_show(struct zangjulf *handle);
 uint8_t __wrap_zangjulf_show(struct zangjulf *handle) {
     static unsigned shown;
-    return handle->is_open && ++shown % 20 == 0 ? ZANGJULF_DONE : __real_zangjulf_show(handle);
+    bool is_one = handle->mark && ++shown % 20 == 0;
+#if WRONG_show == 2
+    unsigned number = __real_zangjulf_show(handle);
+    return is_one && !number ? __real_zangjulf_show(handle) : (uint8_t)number;
+#else
+    return is_one ? ZANGJULF_DONE : __real_zangjulf_show(handle);
+#endif
 }
 #endif
 
 /* data where there are none; an age of another sending; an image of two epochs; a seat that goes back to an image that it had; a task's
- * epoch that each edit raises */
+ * epoch that each edit raises; old data that are complete; a line that is never closed; a post that is never refused */
 #ifdef WRONG_seat_view
 uint8_t __real_zangjulf_seat_view(struct zangjulf_seat *seat, uint8_t *out, size_t length, uint64_t *serials, size_t room, struct zangjulf_view *view);
 uint8_t __wrap_zangjulf_seat_view(struct zangjulf_seat *seat, uint8_t *out, size_t length, uint64_t *serials, size_t room, struct zangjulf_view *view) {
@@ -259,6 +312,12 @@ uint8_t __wrap_zangjulf_seat_view(struct zangjulf_seat *seat, uint8_t *out, size
     before = now;
 #elif WRONG_seat_view == 5
     view->task_epoch = view->epoch;
+#elif WRONG_seat_view == 6
+    if (view->has) view->state = ZANGJULF_COMPLETE;
+#elif WRONG_seat_view == 7
+    view->line = ZANGJULF_LINE_OPEN;
+#elif WRONG_seat_view == 8
+    view->is_refused = 0;
 #else
     view->has |= 1;
 #endif
@@ -279,24 +338,31 @@ uint8_t __wrap_zangjulf_seat_outputs(const struct zangjulf_seat *seat, uint8_t *
 }
 #endif
 
-/* a seat that posts though it or its line is closed; a post for another epoch; a post that is dropped; a post that is made twice */
+/* a seat that posts though it or its line is closed; a post for another epoch; a post that is dropped; a post that is made twice; an older
+ * post that is made again after it */
 #ifdef WRONG_seat_post
-uint8_t __real_zangjulf_seat_post(struct zangjulf_seat *seat, uint32_t epoch, const uint8_t *bytes, size_t length);
-uint8_t __wrap_zangjulf_seat_post(struct zangjulf_seat *seat, uint32_t epoch, const uint8_t *bytes, size_t length) {
+uint8_t __real_zangjulf_seat_post(struct zangjulf_seat *seat, uint32_t epoch, const uint8_t *bytes, size_t length, uint64_t *number);
+uint8_t __wrap_zangjulf_seat_post(struct zangjulf_seat *seat, uint32_t epoch, const uint8_t *bytes, size_t length, uint64_t *number) {
 #if WRONG_seat_post == 2
-    unsigned number = __real_zangjulf_seat_post(seat, epoch, bytes, length);
-    return number == ZANGJULF_STALE_POST && epoch ? __real_zangjulf_seat_post(seat, epoch - 1, bytes, length) : (uint8_t)number;
+    unsigned answer = __real_zangjulf_seat_post(seat, epoch, bytes, length, number);
+    return answer == ZANGJULF_STALE_POST && epoch ? __real_zangjulf_seat_post(seat, epoch - 1, bytes, length, number) : (uint8_t)answer;
 #elif WRONG_seat_post == 3
     static unsigned posted;
-    return seat->is_open && ++posted % 20 == 0 ? ZANGJULF_DONE : __real_zangjulf_seat_post(seat, epoch, bytes, length);
+    return seat->mark && ++posted % 20 == 0 ? ZANGJULF_DONE : __real_zangjulf_seat_post(seat, epoch, bytes, length, number);
 #elif WRONG_seat_post == 4
     static unsigned posted;
-    unsigned number = __real_zangjulf_seat_post(seat, epoch, bytes, length);
-    if (!number && ++posted % 2 == 0) __real_zangjulf_seat_post(seat, epoch, bytes, length);
-    return (uint8_t)number;
+    unsigned answer = __real_zangjulf_seat_post(seat, epoch, bytes, length, number);
+    return !answer && ++posted % 2 == 0 ? __real_zangjulf_seat_post(seat, epoch, bytes, length, number) : (uint8_t)answer;
+#elif WRONG_seat_post == 5
+    static uint8_t older[ZANGJULF_IMAGE];
+    uint64_t other;
+    unsigned answer = __real_zangjulf_seat_post(seat, epoch, bytes, length, number);
+    if (!answer) answer = __real_zangjulf_seat_post(seat, epoch, older, length, &other);
+    for (size_t i = 0; !answer && i < length; i++) older[i] = bytes[i];
+    return (uint8_t)answer;
 #else
-    unsigned number = __real_zangjulf_seat_post(seat, epoch, bytes, length);
-    return number == ZANGJULF_CLOSED ? ZANGJULF_DONE : (uint8_t)number;
+    unsigned answer = __real_zangjulf_seat_post(seat, epoch, bytes, length, number);
+    return answer == ZANGJULF_CLOSED ? ZANGJULF_DONE : (uint8_t)answer;
 #endif
 }
 #endif
@@ -306,28 +372,15 @@ uint8_t __real_zangjulf_take_posts(struct zangjulf *handle, struct zangjulf_take
 uint8_t __wrap_zangjulf_take_posts(struct zangjulf *handle, struct zangjulf_taken *taken) {
 #if WRONG_take_posts == 2
     static unsigned asked;
-    if (handle->is_open && ++asked % 20 == 0) {
-        *taken = (struct zangjulf_taken){0, 0};
+    if (handle->mark && ++asked % 20 == 0) {
+        *taken = (struct zangjulf_taken){0, 0, {0}};
         return ZANGJULF_DONE;
     }
     return __real_zangjulf_take_posts(handle, taken);
 #else
     unsigned number = __real_zangjulf_take_posts(handle, taken);
-    if (!number) *taken = (struct zangjulf_taken){taken->accepted | taken->refused, 0};
+    if (!number) *taken = (struct zangjulf_taken){taken->accepted | taken->refused, 0, {0}};
     return (uint8_t)number;
-#endif
-}
-#endif
-
-#ifdef WRONG_send_ready /* a task that waits is answered as one that there isn't; one register outside the line is left out */
-uint8_t __real_zangjulf_send_ready(struct zangjulf *handle, const uint8_t *tasks, size_t count, uint8_t *out, size_t length, struct zangjulf_sent_ready *sent);
-uint8_t __wrap_zangjulf_send_ready(struct zangjulf *handle, const uint8_t *tasks, size_t count, uint8_t *out, size_t length, struct zangjulf_sent_ready *sent) {
-    unsigned number = __real_zangjulf_send_ready(handle, tasks, count, out, length, sent);
-#if WRONG_send_ready == 2
-    if (number == ZANGJULF_WAITS && sent->waits.outside) sent->waits.outside--;
-    return (uint8_t)number;
-#else
-    return number == ZANGJULF_WAITS ? ZANGJULF_NO_SUCH_TASK : (uint8_t)number;
 #endif
 }
 #endif
@@ -348,9 +401,9 @@ uint8_t __wrap_zangjulf_held_by(const struct zangjulf *handle, uint8_t task, uin
 }
 #endif
 
-#ifdef WRONG_cleared /* forgotten and not cleared */
+#ifdef WRONG_cleared /* lost and not cleared */
 uint8_t __wrap_zangjulf_cleared(struct zangjulf *handle, uint16_t station) {
-    unsigned number = zangjulf_forget(handle, station);
+    unsigned number = zangjulf_slave_lost(handle, station);
     return number == ZANGJULF_ABSENT ? ZANGJULF_DONE : (uint8_t)number;
 }
 #endif

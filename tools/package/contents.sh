@@ -110,7 +110,7 @@ build_packed() {
     empty=$scratch/empty
     rm -rf "$empty"
     mkdir "$empty"
-    for files in cycle/cycle.c "master/master.c master/wire.c" "master/docking.c master/wire.c master/tool.c" \
+    for files in cycle/cycle.c "master/master.c master/wire.c" "master/changes.c master/wire.c" \
         "master/tasks.c master/wire.c master/tool.c"; do
         first=$(basename "${files%%.c*}")
         (cd "$given/examples" && $cc -std=c11 -O2 -Wall -Wextra -Werror -pthread $files $(pkg-config --cflags zangjulf) \
@@ -118,7 +118,7 @@ build_packed() {
         report_run $? "$1: the example $first isn't built from the archive"
     done
     [ "$cc" = gcc ] || return 0
-    (cd "$empty" && ./cycle "$given/examples/tool_changer.toml") >"$scratch/printed" 2>&1 && diff "$given/examples/cycle/cycle.out" "$scratch/printed"
+    (cd "$empty" && ./cycle "$given/examples/own_tasks.toml") >"$scratch/printed" 2>&1 && diff "$given/examples/cycle/cycle.out" "$scratch/printed"
     report $? "$1: the cycle from the archive prints something else"
     (cd "$given/bindings/rust" && CARGO_TARGET_DIR=$empty/target cargo run --quiet --offline --example play) \
         <"$given/examples/tool_changer.in" >"$scratch/printed" 2>&1 && diff "$given/examples/tool_changer.out" "$scratch/printed"

@@ -109,31 +109,33 @@ def _planted_definitions(folder: Path) -> Iterator[tuple[str, bool]]:
 
 GOOD_HEADER = """/* Refusals.
  *
- *   zangjulf_a, _b                          29: `*size`
- *   zangjulf_c                              29: `sent->size`; 17: `sent->owed`
+ *   zangjulf_a, _b                          ROOM: `*size`
+ *   zangjulf_c                              ROOM: `sent->size`; WAITS: `sent->waits`
  */
-    ANSWER(UNPROGRAMMED, 17, "owed") \\
-/* 29 with the bytes needed in `*size`. */
-uint8_t zangjulf_a(uint8_t *out, size_t length, size_t *size);
+/* Answers: DONE; ROOM, with the bytes needed in `*size`. */
+ZANGJULF_CHECKED uint8_t zangjulf_a(uint8_t *out, size_t length, size_t *size);
 
-/* DONE, or 29 with the bytes needed in `*size`, and `out` is as it was. */
-uint8_t zangjulf_b(const uint8_t *out, size_t length, size_t *size);
+/* Answers: DONE; ROOM. With both `*size` is 60. */
+ZANGJULF_CHECKED uint8_t zangjulf_b(const uint8_t *out, size_t length, size_t *size);
 
 struct zangjulf_sent {
-    size_t size;
-    uint32_t owed; /* of an answer 17 how many are owed */
+    uint32_t size;
+    uint32_t waits; /* of WAITS how many are owed */
 };
 
-/* 8, 16 to 19, or 29 with the bytes needed in `sent->size`. */
-uint8_t zangjulf_c(struct zangjulf *handle, struct zangjulf_sent *sent);
+/* Sends.
+ *
+ *   WAITS  a task waits; `sent->waits` says why
+ *   ROOM   `out` is too short; the bytes needed are in `sent->size` */
+ZANGJULF_CHECKED uint8_t zangjulf_c(struct zangjulf *handle, struct zangjulf_sent *sent);
 """
 
 
 def _planted_in_header(folder: Path) -> Iterator[tuple[str, bool]]:
     """A header whose list is right, one that lacks an entry, one with an entry too many, and one with a value that isn't written."""
     changes = (
-        *(("", "", 0), (" *   zangjulf_a, _b ", " *   zangjulf_a     ", 1), ("; 17: `sent->owed`", "", 1)),
-        *(("29 with the bytes needed in `*size`. ", "Nothing. ", 1), ("how many are owed */", "how many are owed; else 0 */", 1)),
+        *(("", "", 0), (" *   zangjulf_a, _b ", " *   zangjulf_a     ", 1), ("; WAITS: `sent->waits`", "", 1)),
+        *(("ROOM, with the bytes needed in `*size`. ", "Nothing. ", 1), ("how many are owed */", "how many are owed; else 0 */", 1)),
     )
     for old, new, count in changes:
         pages = Pages(folder, {}, {HEADER: GOOD_HEADER.replace(old, new)})

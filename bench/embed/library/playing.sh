@@ -24,7 +24,6 @@ use crate::cores::{opened, send};
 use crate::digest::digest_of;
 use hc_core::keeping::Core;
 use hc_events::answer::Answer;
-use hc_events::change::Change;
 use hc_events::event::Event;
 use hc_events::faults::CoreFault;
 use hc_records::edit::Edit;
@@ -100,27 +99,11 @@ fn serve(alloc: Global, core: &mut Core, asked: &Asked, bytes: &[u8]) -> Answer 
     }
 }
 
-fn digest_of_change(digest: u64, change: &Change) -> u64 {
-    match change {
-        Change::Swapped(_) => digest_of(digest, 32),
-        Change::Good(good) => {
-            let digest = digest_of(digest_of(digest, 31), u64::from(good.task()));
-            let mut digest = digest_of(digest, u64::from(good.datagram()));
-            for byte in good.bytes() {
-                digest = digest_of(digest, u64::from(*byte));
-            }
-            digest
-        }
-    }
-}
-
-/// The digest of an event: its answer, the changes, how many blocks are owed, and the next serial.
+/// The digest of an event: its answer, how many blocks are owed, and the next serial. The changes are dropped: C has none.
 fn digest_by(alloc: Global, core: &mut Core, asked: &Asked, bytes: &[u8]) -> u64 {
     let answer = serve(alloc, core, asked, bytes);
-    let mut digest = digest_of_answer(0, &answer);
-    for change in core.take_changes(alloc).as_slice() {
-        digest = digest_of_change(digest, change);
-    }
+    let digest = digest_of_answer(0, &answer);
+    drop(core.take_changes(alloc));
     digest_of(digest_of(digest, u64::from(core.owed())), core.next_serial())
 }
 

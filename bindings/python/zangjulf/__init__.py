@@ -1,48 +1,49 @@
 """Zangjulf's core from Python, by ctypes: the configuration and process image of an EtherCAT line that changes while it runs.
 
     with zangjulf.Line(text) as line:
-        while line.owed:
-            frame = line.next_write()
+        line.write_all(pass_frame)
+        for arrival in line.exchange(line.ready, pass_frame):
+            ...
 
 Each method is a call of the C library (include/zangjulf.h). What the library refuses is raised as an exception with the fault's
-name, as `zangjulf.Unprogrammed`; nothing changed then. A number that the library's type doesn't hold is a `ValueError`. Threads may
+name, as `zangjulf.NothingOwed`; nothing changed then. A number that the library's type doesn't hold is a `ValueError`. Threads may
 share a line or a seat: its calls run one after the other, and each returns its own frames and data. Neither is copied or pickled. Bytes
 are handed in as `bytes`, `bytearray` or `memoryview`, without a copy where they can be written; frames come as `bytes`.
 """
 
 from .answers import (
-    Arrival, Arrived, Block, BlockOutcome, BlockOutcomeKind, Cost, Counters, Datagram, Good, Image, Location, Outcome,
-    OutcomeKind, OwedBlock, Part, Place, Spot, Swapped, Taken, View,
+    Arrival, Arrived, Block, BlockOutcome, BlockOutcomeKind, Cost, Counters, Datagram, Image, ImageSizes, LineState, Location, Outcome,
+    OutcomeKind, OwedBlock, Place, Sent, Spot, State, Taken, View, Waiting,
 )
 from .faults import (
     FAULTS, Fault, FrameFault, ProjectFault,
     UnknownAlias, AlreadyPresent, NotPresent, Mandatory, UnknownStation, Absent, NoSuchArea, NoSuchTask, UnknownPdo,
-    RepeatedPdo, AreaTooBig, TooManyDatagrams, EpochsSpent, StalePost, PostLength, Unprogrammed, NothingOwed,
+    RepeatedPdo, AreaTooBig, TooManyDatagrams, EpochsSpent, StalePost, PostLength, NothingOwed,
     SerialsSpent, Short, NotEtherCat, BadType, BadLength, Circulating, MoreFollows, UnknownCommand, IndexMismatch,
-    Memory, Room, AliasTaken, StationTaken, VariableTaken, TooManyGroups, TooManySlaves, Waits, Nothing, IsInput, TooWide, NoSpare,
+    Memory, Room, AliasTaken, StationTaken, VariableTaken, TooManyGroups, TooManySlaves, Waits, Nothing, IsInput, TooWide,
     ProjectNotToml, ProjectMissingField, ProjectOutOfRange, ProjectRepeatedAlias, ProjectRepeatedStation,
     ProjectRepeatedSyncManager, ProjectOverlappingAreas, ProjectRepeatedVariable, ProjectUnknownPdo,
-    ProjectAreaTooBig, ProjectNotOneGroup, ChangesFull, Busy, Misused, Closed,
+    ProjectAreaTooBig, ProjectNotOneGroup, Busy, Misused, Closed,
 )
 from .library import IMAGE, library_path, library_version
 from .line import FRAMES, Line
-from .seat import Seat
+from .seat import Look, Seat
 from .slave import SLAVE_MEMORY, Slave
 from .values import OTHER_SOURCE, alias_read, fmmu_off, get_bits, is_mine, locate, put_bits, station_write
 from .version import VERSION as __version__
 
 __all__ = [
     "Absent", "AliasTaken", "AlreadyPresent", "AreaTooBig", "Arrival", "Arrived", "BadLength", "BadType", "Block",
-    "BlockOutcome", "BlockOutcomeKind", "Busy", "ChangesFull", "Circulating", "Closed", "Cost", "Counters", "Datagram",
+    "BlockOutcome", "BlockOutcomeKind", "Busy", "Circulating", "Closed", "Cost", "Counters", "Datagram",
     "EpochsSpent", "FAULTS", "FRAMES",
-    "Fault", "FrameFault", "Good", "IMAGE", "Image", "IndexMismatch", "IsInput", "Line", "Location", "Mandatory",
-    "Memory", "Misused", "MoreFollows", "NoSpare", "NoSuchArea", "NoSuchTask", "NotEtherCat", "NotPresent", "Nothing",
-    "NothingOwed", "OTHER_SOURCE", "Outcome", "OutcomeKind", "OwedBlock", "Part", "Place", "PostLength",
+    "Fault", "FrameFault", "IMAGE", "Image", "ImageSizes", "IndexMismatch", "IsInput", "Line", "LineState", "Location", "Look", "Mandatory",
+    "Memory", "Misused", "MoreFollows", "NoSuchArea", "NoSuchTask", "NotEtherCat", "NotPresent", "Nothing",
+    "NothingOwed", "OTHER_SOURCE", "Outcome", "OutcomeKind", "OwedBlock", "Place", "PostLength",
     "ProjectAreaTooBig", "ProjectFault", "ProjectMissingField", "ProjectNotOneGroup", "ProjectNotToml",
     "ProjectOutOfRange", "ProjectOverlappingAreas", "ProjectRepeatedAlias", "ProjectRepeatedStation",
     "ProjectRepeatedSyncManager", "ProjectRepeatedVariable", "ProjectUnknownPdo", "RepeatedPdo", "Room",
-    "SLAVE_MEMORY", "Seat", "SerialsSpent", "Short", "Slave", "Spot", "StalePost", "StationTaken", "Swapped", "Taken",
+    "SLAVE_MEMORY", "Seat", "Sent", "SerialsSpent", "Short", "Slave", "Spot", "StalePost", "State", "StationTaken", "Taken",
     "TooManyDatagrams", "TooManyGroups", "TooManySlaves", "TooWide", "UnknownAlias", "UnknownCommand", "UnknownPdo",
-    "UnknownStation", "Unprogrammed", "VariableTaken", "View", "Waits", "__version__", "alias_read", "fmmu_off", "get_bits",
+    "UnknownStation", "VariableTaken", "View", "Waiting", "Waits", "__version__", "alias_read", "fmmu_off", "get_bits",
     "is_mine", "library_path", "library_version", "locate", "put_bits", "station_write",
 ]

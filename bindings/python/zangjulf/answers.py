@@ -2,7 +2,6 @@
 
 from __future__ import annotations
 
-from dataclasses import dataclass
 from enum import Enum
 from typing import NamedTuple
 
@@ -17,7 +16,7 @@ class Datagram(NamedTuple):
     offset: int
 
 
-class Part(NamedTuple):
+class ImageSizes(NamedTuple):
     """The bytes of a task's outputs, which come first, and of its inputs."""
 
     outputs: int
@@ -53,23 +52,55 @@ class OwedBlock(NamedTuple):
 
 class Cost(NamedTuple):
     """What an edit does: the epoch that begins with it; how many datagrams are cut anew; how many register blocks
-    moved; how many variables have another place, appear or go."""
+    moved; how many variables have another place, appear or go; and the tasks that wait after it, once each slave that comes is
+    cleared."""
 
     epoch: int
     recut: int
     moved: int
     places: int
+    waits: tuple[int, ...]
+
+
+class Waiting(NamedTuple):
+    """Why a task waits: how many owed register blocks concern it, and how many FMMUs of slaves outside the line may map it."""
+
+    task: int
+    blocks: int
+    outside: int
+
+
+class Sent(NamedTuple):
+    """What was sent of tasks: the serial of the first frame, which the others follow, and the frames."""
+
+    first_serial: int
+    frames: list[bytes]
 
 
 class Arrived(Enum):
-    """What an arrival answers: frames of tasks; a write of one register block, taken or not; nothing that is awaited; a frame of
-    several register writes."""
+    """What a frame that came back answers: a sending of tasks; a frame of register writes, of one block or of several; nothing that is
+    awaited."""
 
-    TASKS = 0
-    WRITE_DONE = 101
-    WRITE_MISSED = 102
-    STALE = 103
-    WRITTEN = 104
+    TASKS = 1
+    BLOCKS = 2
+    STALE = 3
+
+
+class State(Enum):
+    """How a task's data compare with its last sending: none of its datagrams has data of it, some have, or all."""
+
+    NO_DATA = 0
+    INCOMPLETE = 1
+    COMPLETE = 2
+
+
+class LineState(Enum):
+    """What a seat's image says of the line: it is open; it was closed after the image; the task, or the number of a seat that only looks,
+    got another seat. After the last two no newer image comes."""
+
+    OPEN = 1
+    CLOSED = 2
+    REPLACED = 3
 
 
 class OutcomeKind(Enum):
@@ -94,8 +125,8 @@ class Outcome(NamedTuple):
 
 
 class BlockOutcomeKind(Enum):
-    """What an arrival is for a register block of a frame of several: the block is known; no slave took it, and it stays owed; it was
-    sent again since, or its slave was forgotten, and nothing changed by it."""
+    """What an arrival is for a register block: it is written; no slave took it, and it stays owed; it was sent again since, or its slave
+    was lost or cleared, and nothing changed by it."""
 
     WRITTEN = 4
     MISSED = 5
@@ -103,7 +134,7 @@ class BlockOutcomeKind(Enum):
 
 
 class BlockOutcome(NamedTuple):
-    """A register block of a frame of several that arrived: what the arrival is for it, the slave's station address, its first
+    """A register block whose write arrived: what the arrival is for it, the slave's station address, its first
     register, and the working counter that it came back with, 1 if a slave took it."""
 
     kind: BlockOutcomeKind
@@ -113,38 +144,46 @@ class BlockOutcome(NamedTuple):
 
 
 class Arrival(NamedTuple):
-    """What an arrival answers, the serial that the frame bears, its datagrams, of a write of one register block the slave's station
-    address and the register, and the blocks of a frame of several."""
+    """What a frame that came back answers, the serial that it bears, and what it is for each datagram of tasks, or for each register
+    block."""
 
     answers: Arrived
     serial: int
     outcomes: list[Outcome]
-    station: int | None
-    start: int | None
-    blocks: tuple[BlockOutcome, ...] = ()
+    blocks: list[BlockOutcome]
 
 
 class Image(NamedTuple):
     """What a task reads: the present epoch, the epoch of the last edit that changed the task, the data of all datagrams since then at
     their offsets, zeros where there are none, and of each datagram the serial of the sending that its data answer, or None where it has
-    none."""
+    none; the first serial of the task's last sending, 0 before one, and how the data compare with it."""
 
     epoch: int
     task_epoch: int
     data: bytes
     serials: list[int | None]
+    first_serial: int
+    state: State
 
 
 class View(NamedTuple):
-    """An image that a seat views: the line's epoch when it was shown, the task's epoch then, the data of all datagrams since then at
-    their offsets, zeros where there are none, how many of the bytes are outputs, which come first, and of each datagram with data
-    the serial of the sending that they answer."""
+    """An image that a seat views: how many images the seat was shown, with this one; the line's epoch when it was shown, the task's
+    epoch then, the data of all datagrams since then at their offsets, zeros where there are none, how many of the bytes are outputs,
+    which come first, and of each datagram the serial of the sending that its data answer, or None where it has none; the first serial
+    of the task's last sending, 0 before one, and how the data compare with it; the number of the seat's post that was taken last, 0
+    before one, and whether it was refused; and whether line and seat are still there."""
 
+    showing: int
     epoch: int
     task_epoch: int
     data: bytes
     outputs: int
-    serials: dict[int, int]
+    serials: list[int | None]
+    first_serial: int
+    state: State
+    taken: int
+    is_refused: bool
+    line: LineState
 
 
 class Taken(NamedTuple):
@@ -161,19 +200,6 @@ class Counters(NamedTuple):
     good: int
     wrong: int
     again: int
-
-
-@dataclass(frozen=True)
-class Swapped:
-    """A change: an edit was accepted, and an epoch began."""
-
-
-class Good(NamedTuple):
-    """A change: a datagram has a good answer with these data."""
-
-    task: int
-    datagram: int
-    data: bytes
 
 
 class Spot(NamedTuple):

@@ -2,6 +2,8 @@
 
 from __future__ import annotations
 
+from .answers import Waiting
+
 
 class Fault(Exception):
     """A refusal: `number` and `text` are the fault's, `detail` what goes with it, or None. Nothing changed."""
@@ -9,7 +11,7 @@ class Fault(Exception):
     number = 0
     text = ""
 
-    def __init__(self, detail: int | None = None) -> None:
+    def __init__(self, detail: int | Waiting | None = None) -> None:
         self.detail = detail
         super().__init__(self.text + ("" if detail is None else f" ({detail})"))
 
@@ -114,24 +116,17 @@ class EpochsSpent(Fault):
 
 
 class StalePost(Fault):
-    """The post was made before the last edit that changed its task, or for an epoch to come."""
+    """The epoch is before the last edit that changed the task, or above the present one."""
 
     number = 15
-    text = "the post was made before the last edit that changed its task, or for an epoch to come"
+    text = "the epoch is before the last edit that changed the task, or above the present one"
 
 
 class PostLength(Fault):
-    """The post does not have the task's number of output bytes."""
+    """The post does not have as many bytes as the task has outputs."""
 
     number = 16
-    text = "the post does not have the task's number of output bytes"
-
-
-class Unprogrammed(Fault):
-    """Register blocks are owed: no task is sent before they are written. `detail` is how many."""
-
-    number = 17
-    text = "register blocks are owed: no task is sent before they are written"
+    text = "the post does not have as many bytes as the task has outputs"
 
 
 class NothingOwed(Fault):
@@ -254,24 +249,24 @@ class TooManySlaves(Fault):
 
 
 class Waits(Fault):
-    """A task waits: register blocks that concern it are owed, or a slave outside the line may take part in it. `detail` is the task."""
+    """A task waits: owed register blocks concern it, or a slave outside the line may map it. `detail` is a `Waiting`: the task, and why."""
 
     number = 36
-    text = "a task waits: register blocks that concern it are owed, or a slave outside the line may take part in it"
+    text = "a task waits: owed register blocks concern it, or a slave outside the line may map it"
 
 
 class Nothing(Fault):
-    """There is no such thing."""
+    """There is no such variable, datagram, slave or block."""
 
     number = 100
-    text = "there is no such thing"
+    text = "there is no such variable, datagram, slave or block"
 
 
 class IsInput(Fault):
-    """The variable is an input: no value is put into it."""
+    """The variable is an input: it takes no value."""
 
     number = 105
-    text = "the variable is an input: no value is put into it"
+    text = "the variable is an input: it takes no value"
 
 
 class TooWide(Fault):
@@ -279,13 +274,6 @@ class TooWide(Fault):
 
     number = 106
     text = "the value needs more bits than there are"
-
-
-class NoSpare(Fault):
-    """Four posts of the seat wait."""
-
-    number = 107
-    text = "four posts of the seat wait"
 
 
 class ProjectNotToml(ProjectFault):
@@ -365,25 +353,18 @@ class ProjectNotOneGroup(ProjectFault):
     text = "the text is a project, but not one group's"
 
 
-class ChangesFull(Fault):
-    """The line keeps no more changes: ask for those that it has first."""
-
-    number = 252
-    text = "the line keeps no more changes: ask for those that it has first"
-
-
 class Busy(Fault):
-    """Another call with the handle runs."""
+    """Another call with the handle runs: nothing was done."""
 
     number = 253
-    text = "another call with the handle runs"
+    text = "another call with the handle runs: nothing was done"
 
 
 class Misused(Fault):
-    """What the call asks of its caller does not hold."""
+    """An argument is outside its range, or the handle is not one for this call."""
 
     number = 254
-    text = "what the call asks of its caller does not hold"
+    text = "an argument is outside its range, or the handle is not one for this call"
 
 
 class Closed(Fault):

@@ -12,7 +12,7 @@ from typing import Any
 SHARED_OBJECT = "libzangjulf.so"
 
 #: the number of the binary interface that is declared here
-ABI = 0
+ABI = 1
 
 #: the most datagrams of a task
 DATAGRAMS = 16
@@ -22,19 +22,27 @@ IMAGE = DATAGRAMS * 1486
 
 
 class Handle(ctypes.Structure):
-    _fields_ = [("is_open", c_bool), ("at", c_void_p)]
+    _fields_ = [("mark", c_uint64), ("at", c_void_p)]
 
 
 class Seat(ctypes.Structure):
-    _fields_ = [("is_open", c_bool), ("at", c_void_p)]
+    _fields_ = [("mark", c_uint64), ("at", c_void_p)]
+
+
+class Options(ctypes.Structure):
+    _fields_ = [("size", c_uint32), ("lookers", c_uint32)]
 
 
 class View(ctypes.Structure):
-    _fields_ = [("epoch", c_uint32), ("task_epoch", c_uint32), ("size", c_size_t), ("outputs", c_size_t), ("has", c_uint16)]
+    _fields_ = [
+        ("showing", c_uint64), ("first_serial", c_uint64), ("taken", c_uint64),
+        ("epoch", c_uint32), ("task_epoch", c_uint32), ("size", c_uint32), ("outputs", c_uint32),
+        ("datagrams", c_uint16), ("has", c_uint16), ("state", c_uint8), ("line", c_uint8), ("is_refused", c_uint8), ("reserved", c_uint8),
+    ]
 
 
 class Taken(ctypes.Structure):
-    _fields_ = [("accepted", c_uint8), ("refused", c_uint8)]
+    _fields_ = [("accepted", c_uint8), ("refused", c_uint8), ("reserved", c_uint8 * 6)]
 
 
 class Place(ctypes.Structure):
@@ -47,7 +55,7 @@ class Datagram(ctypes.Structure):
     _fields_ = [("address", c_uint32), ("length", c_uint16), ("expected", c_uint16), ("offset", c_uint16)]
 
 
-class Part(ctypes.Structure):
+class ImageSizes(ctypes.Structure):
     _fields_ = [("outputs", c_uint16), ("inputs", c_uint16)]
 
 
@@ -56,55 +64,57 @@ class Block(ctypes.Structure):
 
 
 class OwedBlock(ctypes.Structure):
-    _fields_ = [("station", c_uint16), ("start", c_uint16), ("size", c_uint8)]
+    _fields_ = [("station", c_uint16), ("start", c_uint16), ("size", c_uint8), ("reserved", c_uint8 * 3)]
 
 
 class Write(ctypes.Structure):
-    _fields_ = [("size", c_size_t), ("block", OwedBlock)]
+    _fields_ = [("size", c_uint32), ("block", OwedBlock)]
 
 
 class Writes(ctypes.Structure):
-    _fields_ = [("size", c_size_t), ("blocks", c_size_t)]
+    _fields_ = [("size", c_uint32), ("blocks", c_uint32)]
 
 
 class Cost(ctypes.Structure):
-    _fields_ = [("epoch", c_uint32), ("recut", c_uint32), ("moved", c_uint32), ("places", c_uint32), ("crowded", c_uint8)]
+    _fields_ = [
+        ("epoch", c_uint32), ("recut", c_uint32), ("moved", c_uint32), ("places", c_uint32),
+        ("crowded", c_uint8), ("waits", c_uint8), ("reserved", c_uint8 * 2),
+    ]
 
 
-class Sent(ctypes.Structure):
-    _fields_ = [("size", c_size_t), ("frames", c_size_t), ("owed", c_uint32)]
+class Frame(ctypes.Structure):
+    _fields_ = [("offset", c_uint32), ("size", c_uint32)]
 
 
 class Waits(ctypes.Structure):
-    _fields_ = [("task", c_uint8), ("blocks", c_uint32), ("outside", c_uint32)]
+    _fields_ = [("blocks", c_uint32), ("outside", c_uint32), ("task", c_uint8), ("reserved", c_uint8 * 3)]
 
 
-class SentReady(ctypes.Structure):
-    _fields_ = [("size", c_size_t), ("frames", c_size_t), ("waits", Waits)]
+class Sent(ctypes.Structure):
+    _fields_ = [("first_serial", c_uint64), ("size", c_uint32), ("frames", c_uint32), ("waits", Waits), ("reserved", c_uint32)]
 
 
 class Outcome(ctypes.Structure):
     _fields_ = [
-        ("kind", c_uint8), ("task", c_uint8), ("datagram", c_uint8),
+        ("kind", c_uint8), ("task", c_uint8), ("datagram", c_uint8), ("reserved", c_uint8),
         ("expected", c_uint16), ("got", c_uint16), ("at", c_uint16), ("length", c_uint16),
         ("station", c_uint16), ("start", c_uint16),
     ]
 
 
 class Arrival(ctypes.Structure):
-    _fields_ = [("serial", c_uint64), ("datagrams", c_size_t), ("station", c_uint16), ("start", c_uint16)]
+    _fields_ = [("serial", c_uint64), ("datagrams", c_uint16), ("kind", c_uint8), ("reserved", c_uint8 * 5)]
 
 
 class Image(ctypes.Structure):
-    _fields_ = [("epoch", c_uint32), ("task_epoch", c_uint32), ("datagrams", c_size_t), ("size", c_size_t), ("has", c_uint16)]
+    _fields_ = [
+        ("first_serial", c_uint64), ("epoch", c_uint32), ("task_epoch", c_uint32), ("size", c_uint32),
+        ("datagrams", c_uint16), ("has", c_uint16), ("state", c_uint8), ("reserved", c_uint8 * 7),
+    ]
 
 
 class Counters(ctypes.Structure):
     _fields_ = [("sent", c_uint64), ("good", c_uint64), ("wrong", c_uint64), ("again", c_uint64)]
-
-
-class Change(ctypes.Structure):
-    _fields_ = [("kind", c_uint8), ("task", c_uint8), ("datagram", c_uint8), ("size", c_uint16)]
 
 
 class Spot(ctypes.Structure):
@@ -124,29 +134,29 @@ _SLICE = (_BYTES, c_size_t)
 
 #: what each call of a line takes after the handle
 LINE_CALLS: dict[str, tuple[Any, ...]] = {
-    "open": (*_SLICE, c_uint32, POINTER(c_uint8)),
+    "open": (POINTER(Options), *_SLICE, POINTER(c_uint8)),
     "epoch": (POINTER(c_uint32),),
     "next_serial": (POINTER(c_uint64),),
     "owed": (POINTER(c_uint32),),
     "owed_block": (c_uint32, POINTER(OwedBlock)),
     "place": (c_uint32, POINTER(Place)),
+    "places": (POINTER(c_uint32), c_size_t, POINTER(Place), c_size_t),
     "datagram": (c_uint8, c_uint8, POINTER(Datagram)),
-    "part": (c_uint8, POINTER(Part)),
+    "image_sizes": (c_uint8, POINTER(ImageSizes)),
     "station": (c_uint32, POINTER(c_uint16)),
     "position": (c_uint16, POINTER(c_uint32)),
-    "share": (c_uint8, c_uint8, c_uint16, POINTER(c_uint16)),
+    "expected_of": (c_uint8, c_uint8, c_uint16, POINTER(c_uint16)),
     "block": (c_uint16, c_uint8, *_SLICE, POINTER(Block)),
     "connect": (c_uint16, c_bool, POINTER(Cost)),
     "disconnect": (c_uint16, c_bool, POINTER(Cost)),
     "remap": (c_uint16, c_uint8, POINTER(c_uint16), c_size_t, c_bool, POINTER(Cost)),
-    "move": (c_uint16, c_uint8, c_uint8, c_bool, POINTER(Cost)),
+    "move_area": (c_uint16, c_uint8, c_uint8, c_bool, POINTER(Cost)),
     "declare": (*_SLICE, c_bool, POINTER(Cost)),
     "next_write": (*_SLICE, POINTER(Write)),
     "next_writes": (*_SLICE, POINTER(Writes)),
-    "forget": (c_uint16,),
+    "slave_lost": (c_uint16,),
     "post": (c_uint8, c_uint32, *_SLICE),
-    "send": (*_SLICE, *_SLICE, POINTER(Sent)),
-    "send_ready": (*_SLICE, *_SLICE, POINTER(SentReady)),
+    "send": (*_SLICE, *_SLICE, POINTER(Frame), c_size_t, POINTER(Sent)),
     "ready": (POINTER(c_uint8),),
     "held_by": (c_uint8, c_uint32, POINTER(c_uint16)),
     "cleared": (c_uint16,),
@@ -155,19 +165,21 @@ LINE_CALLS: dict[str, tuple[Any, ...]] = {
     "arrive": (*_SLICE, POINTER(Outcome), c_size_t, POINTER(Arrival)),
     "read": (c_uint8, *_SLICE, POINTER(c_uint64), c_size_t, POINTER(Image)),
     "counters": (c_uint8, c_uint8, POINTER(Counters)),
-    "next_change": (*_SLICE, POINTER(Change)),
-    "put_value": (c_uint32, c_uint64, *_SLICE),
-    "get_value": (c_uint32, *_SLICE, POINTER(c_uint64)),
+    "put_value": (c_uint32, c_uint32, c_uint64, *_SLICE),
+    "get_value": (c_uint32, c_uint32, *_SLICE, POINTER(c_uint64)),
     "seat_open": (c_uint8, POINTER(Seat)),
+    "look_open": (c_uint32, c_uint8, POINTER(Seat)),
     "show": (),
     "take_posts": (POINTER(Taken),),
+    "close": (),
 }
 
 #: what each call of a seat takes after the seat
 SEAT_CALLS: dict[str, tuple[Any, ...]] = {
     "seat_view": (*_SLICE, POINTER(c_uint64), c_size_t, POINTER(View)),
     "seat_outputs": _SLICE,
-    "seat_post": (c_uint32, *_SLICE),
+    "seat_post": (c_uint32, *_SLICE, POINTER(c_uint64)),
+    "seat_close": (),
 }
 
 #: what each call without a line takes
@@ -214,8 +226,6 @@ def _load() -> ctypes.PyDLL:
     for name, arguments in CALLS.items():
         call = getattr(found, f"zangjulf_{name}")
         call.argtypes, call.restype = arguments, c_uint8
-    found.zangjulf_close.argtypes, found.zangjulf_close.restype = (POINTER(Handle),), None
-    found.zangjulf_seat_close.argtypes, found.zangjulf_seat_close.restype = (POINTER(Seat),), None
     found.zangjulf_is_mine.argtypes, found.zangjulf_is_mine.restype = _SLICE, c_bool
     found.zangjulf_version.argtypes, found.zangjulf_version.restype = (POINTER(c_uint32),) * 3, None
     return found

@@ -86,6 +86,6 @@ def station_write(position: int, station: int) -> bytes:
 
 def fmmu_off(station: int, count: int) -> bytes:
     """The frame that switches off the first `count` FMMUs, 1 to 16, of the slave with a station address, as many as it has areas: its
-    working counter is 1 in what returns if the slave took it. Send it before `Line.disconnect`, while the slave still answers: a slave
-    that stays on the wire would take the outputs of the next one in its task. `Misused` for another count."""
+    working counter is 1 in what returns if the slave took it. Send it before `Line.connect`, and before `Line.disconnect`
+    while the slave still answers, and call `Line.cleared` after the edit. `Misused` for another count."""
     return _frame("fmmu_off", station, count)

@@ -3,7 +3,7 @@
 
 use std::error::Error;
 use std::io::{self, Read, Write};
-use zangjulf::{Arrival, Dir, Edit, Fault, Line, Outcome, OutcomeKind, FRAMES, IMAGE};
+use zangjulf::{Arrival, BlockOutcomeKind, Dir, Edit, Fault, Line, Outcome, OutcomeKind, FRAMES, IMAGE};
 
 type Printed = Result<(), Box<dyn Error>>;
 
@@ -29,8 +29,8 @@ fn layout(line: &Line, out: &mut impl Write) -> Printed {
         let mut number = 0;
         while let Some(datagram) = line.datagram(task, number) {
             if number == 0 {
-                let part = line.part(task);
-                writeln!(out, "task {task} parts {} {}", part.outputs, part.inputs)?;
+                let sizes = line.image_sizes(task);
+                writeln!(out, "task {task} parts {} {}", sizes.outputs, sizes.inputs)?;
             }
             let (address, length, expected) = (datagram.address, datagram.length, datagram.expected);
             writeln!(out, "datagram {number} address {address:#010x} length {length} expected {expected}")?;
@@ -87,12 +87,15 @@ fn outcome(it: Outcome, out: &mut impl Write) -> Printed {
 
 fn arrive(line: &mut Line, bytes: &[u8], out: &mut impl Write) -> Printed {
     match line.arrive(bytes)? {
-        Arrival::WriteDone(_) => writeln!(out, "write done")?,
-        Arrival::WriteMissed(_) => writeln!(out, "write missed")?,
         Arrival::Stale { .. } => writeln!(out, "stale")?,
-        Arrival::Answered { mut outcomes, .. } => outcomes.try_for_each(|it| outcome(it, out))?,
-        // no command sends one
-        Arrival::Writes { .. } => {}
+        Arrival::Tasks { mut outcomes, .. } => outcomes.try_for_each(|it| outcome(it, out))?,
+        // a command sends one block at a time
+        Arrival::Blocks { blocks, .. } => {
+            for block in blocks {
+                let is_written = block.kind == BlockOutcomeKind::Written;
+                writeln!(out, "write {}", if is_written { "done" } else { "missed" })?;
+            }
+        }
     }
     Ok(())
 }
@@ -118,10 +121,32 @@ fn refused(fault: &Fault, out: &mut impl Write) -> Printed {
     write!(out, "refused {} {}", fault.number(), fault.name())?;
     match fault {
         Fault::TooManyDatagrams(task) => write!(out, " {task}")?,
-        Fault::Unprogrammed(owed) => write!(out, " {owed}")?,
         _ => {}
     }
     Ok(writeln!(out)?)
+}
+
+/// The program sends no task while a block is owed, and doesn't wait for slaves outside the line: they are unplugged.
+fn send(line: &mut Line, tasks: &[u8], frames: &mut [u8], out: &mut impl Write) -> Printed {
+    if tasks.iter().any(|task| *task > 7) {
+        return Err(Fault::NoSuchTask.into());
+    }
+    if line.owed() > 0 {
+        return Ok(writeln!(out, "refused 17 Unprogrammed {}", line.owed())?);
+    }
+    for task in tasks {
+        while let Some(station) = line.held_by(*task, 0) {
+            line.unplugged(station)?;
+        }
+    }
+    let sent = line.send(tasks, frames)?;
+    if sent.frames.clone().next().is_none() {
+        writeln!(out, "no frame")?;
+    }
+    for (number, frame) in sent.frames.enumerate() {
+        writeln!(out, "sent {}: {}", sent.first_serial + number as u64, hex(frame))?;
+    }
+    Ok(())
 }
 
 fn run(line: &mut Line, words: &[&str], first: &mut u64, frames: &mut [u8], out: &mut impl Write) -> Printed {
@@ -143,19 +168,12 @@ fn run(line: &mut Line, words: &[&str], first: &mut u64, frames: &mut [u8], out:
         }
         ["move", station, area, task] => {
             let (station, area, task) = (number(station)? as u16, number(area)? as u8, number(task)? as u8);
-            edit(line, Edit::Move { station, area, task }, first, out)
+            edit(line, Edit::MoveArea { station, area, task }, first, out)
         }
         ["write"] => Ok(writeln!(out, "sent {serial}: {}", hex(line.next_write(frames)?.frame))?),
         ["send", tasks @ ..] => {
             let tasks = tasks.iter().map(|task| Ok(number(task)? as u8)).collect::<Result<Vec<_>, Box<dyn Error>>>()?;
-            let sent = line.send(&tasks, frames)?;
-            if sent.clone().next().is_none() {
-                writeln!(out, "no frame")?;
-            }
-            for (number, frame) in sent.enumerate() {
-                writeln!(out, "sent {}: {}", serial + number as u64, hex(frame))?;
-            }
-            Ok(())
+            send(line, &tasks, frames, out)
         }
         ["arrive", word] => arrive(line, &bytes_in(word)?, out),
         ["read", task] => read(line, number(task)? as u8, *first, out),

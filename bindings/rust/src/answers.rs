@@ -43,7 +43,7 @@ pub struct Datagram {
 /// The bytes of a task's image.
 #[repr(C)]
 #[derive(Clone, Copy, Debug, Default, PartialEq, Eq)]
-pub struct Part {
+pub struct ImageSizes {
     /// Its outputs, which come first: as many bytes as a post has.
     pub outputs: u16,
     /// Its inputs.
@@ -70,6 +70,7 @@ pub struct OwedBlock {
     pub start: u16,
     /// Its bytes: 8 of a sync manager, 16 of an FMMU.
     pub size: u8,
+    pub(crate) reserved: [u8; 3],
 }
 
 /// A register write that was sent.
@@ -87,7 +88,7 @@ pub struct Writes<'a> {
     /// Their frame.
     pub frame: &'a [u8],
     /// How many register blocks it writes, 1 to 74.
-    pub blocks: usize,
+    pub blocks: u32,
 }
 
 /// What an edit does.
@@ -104,15 +105,20 @@ pub struct Cost {
     /// How many variables have another place, appear or go.
     pub places: u32,
     pub(crate) crowded: u8,
+    /// The tasks that wait after it, once each slave that comes is cleared: bit t is 1 if task t does.
+    pub waits: u8,
+    pub(crate) reserved: [u8; 2],
 }
 
 /// An edit of the line.
 #[derive(Clone, Copy, Debug, PartialEq, Eq)]
 pub enum Edit<'a> {
-    /// The group with this alias joins the line.
+    /// The group with this alias joins the line. See the frame of [`fmmu_off`](crate::fmmu_off) to each of its slaves come back with
+    /// counter 1 before, and call [`Line::cleared`](crate::Line::cleared) for each after it.
     Connect(u16),
-    /// The group with this alias leaves the line. Send [`fmmu_off`](crate::fmmu_off) to its slaves first, or unplug them: one that stays
-    /// on the wire would take the outputs of the next one in its task.
+    /// The group with this alias leaves the line. Send [`fmmu_off`](crate::fmmu_off) to its slaves before, or unplug them, and call
+    /// [`Line::cleared`](crate::Line::cleared) or [`Line::unplugged`](crate::Line::unplugged) for each after it. Until then the tasks
+    /// that they may take part in wait.
     Disconnect(u16),
     /// An area of a present slave gets these PDOs assigned, in this order.
     Remap {
@@ -124,7 +130,7 @@ pub enum Edit<'a> {
         pdos: &'a [u16],
     },
     /// An area of a present slave moves to a task.
-    Move {
+    MoveArea {
         /// The slave's station address.
         station: u16,
         /// The area's place in the slave's record, from 0.
@@ -174,18 +180,18 @@ impl Outcome {
     }
 }
 
-/// What an arrival is for a register block of a frame of several.
+/// What an arrival is for a register block.
 #[derive(Clone, Copy, Debug, PartialEq, Eq)]
 pub enum BlockOutcomeKind {
-    /// The block is known.
+    /// The block is written, and owed no more.
     Written,
     /// No slave took it: it stays owed.
     Missed,
-    /// It was sent again since, or its slave was forgotten, and nothing changed by it.
+    /// It was sent again since, or its slave was lost or cleared, and nothing changed by it.
     SentAgain,
 }
 
-/// A register block of a frame of several that arrived.
+/// A register block whose write arrived.
 #[derive(Clone, Copy, Debug, PartialEq, Eq)]
 pub struct BlockOutcome {
     /// What the arrival is for it.
@@ -198,15 +204,64 @@ pub struct BlockOutcome {
     pub got: u16,
 }
 
+/// How a task's data compare with its last sending.
+#[derive(Clone, Copy, Debug, PartialEq, Eq)]
+pub enum State {
+    /// None of the task's datagrams has data of the last sending.
+    NoData,
+    /// Some have, and some have not.
+    Incomplete,
+    /// All have; a task without datagrams is complete.
+    Complete,
+}
+
+impl State {
+    pub(crate) fn of(number: u8) -> State {
+        match number {
+            0 => State::NoData,
+            1 => State::Incomplete,
+            _ => State::Complete,
+        }
+    }
+}
+
+/// Whether a seat's line, and its place in it, are still there.
+#[derive(Clone, Copy, Debug, PartialEq, Eq)]
+pub enum LineState {
+    /// The line is open.
+    Open,
+    /// The line was closed: this is the seat's last image.
+    Closed,
+    /// The task, or the number of a seat that only looks, has got another seat: this is the seat's last image.
+    Replaced,
+}
+
+/// Why a task waits.
+#[repr(C)]
+#[derive(Clone, Copy, Debug, Default, PartialEq, Eq)]
+pub struct Waits {
+    /// How many owed register blocks concern it.
+    pub blocks: u32,
+    /// How many FMMUs of slaves outside the line may map it.
+    pub outside: u32,
+    /// The task, 0 to 7.
+    pub task: u8,
+    pub(crate) reserved: [u8; 3],
+}
+
 /// What a task reads.
 #[derive(Clone, Copy, Debug, PartialEq, Eq)]
 pub struct Image<'a> {
+    /// The first serial of the task's last sending, 0 before one.
+    pub first_serial: u64,
+    /// How its data compare with that sending.
+    pub state: State,
     /// The present epoch: it counts the edits.
     pub epoch: u32,
     /// The epoch of the last edit that changed the task, 0 if none did.
     pub task_epoch: u32,
     /// How many datagrams the task has, at most 16.
-    pub datagrams: usize,
+    pub datagrams: u16,
     /// The data of each, at its offset; zeros where it has none.
     pub bytes: &'a [u8],
     pub(crate) has: u16,
@@ -223,6 +278,18 @@ impl Image<'_> {
 /// An image that a seat views.
 #[derive(Clone, Copy, Debug, PartialEq, Eq)]
 pub struct View<'a> {
+    /// How many images the seat was shown, with this one, from 1.
+    pub showing: u64,
+    /// The first serial of the task's last sending, 0 before one.
+    pub first_serial: u64,
+    /// How the data compare with that sending.
+    pub state: State,
+    /// The number of the seat's post that was taken last when the image was shown, 0 before one.
+    pub taken: u64,
+    /// Whether that post was refused.
+    pub is_refused: bool,
+    /// Whether line and seat are still there.
+    pub line: LineState,
     /// The epoch in which the image was shown.
     pub epoch: u32,
     /// The task's epoch then: posts are for an epoch from this one to `epoch`.
@@ -231,6 +298,8 @@ pub struct View<'a> {
     pub bytes: &'a [u8],
     /// The task's output bytes, which come first: as many bytes as a post has.
     pub outputs: usize,
+    /// How many datagrams the task has, at most 16.
+    pub datagrams: u16,
     pub(crate) has: u16,
     pub(crate) serials: [u64; 16],
 }
@@ -254,6 +323,7 @@ fn serial_in(has: u16, serials: &[u64; 16], datagram: u8) -> Option<u64> {
 pub struct Taken {
     pub(crate) accepted: u8,
     pub(crate) refused: u8,
+    pub(crate) reserved: [u8; 6],
 }
 
 impl Taken {
@@ -280,20 +350,4 @@ pub struct Counters {
     pub wrong: u64,
     /// Answers to a sending that wasn't the last one.
     pub again: u64,
-}
-
-/// A change of what tasks read.
-#[derive(Clone, Copy, Debug, PartialEq, Eq)]
-pub enum Change<'a> {
-    /// An edit was accepted: an epoch began.
-    Swapped,
-    /// A datagram has a good answer.
-    Good {
-        /// The task, 0 to 7.
-        task: u8,
-        /// The datagram's number in the task, 0 to 15.
-        datagram: u8,
-        /// Its data.
-        data: &'a [u8],
-    },
 }

@@ -17,8 +17,8 @@ impl Line {
                 Edit::Remap { station, area, pdos } => {
                     ffi::zangjulf_remap(handle, station, area, pdos.as_ptr(), pdos.len(), asks, &mut cost)
                 }
-                Edit::Move { station, area, task } => {
-                    ffi::zangjulf_move(handle, station, area, task, asks, &mut cost)
+                Edit::MoveArea { station, area, task } => {
+                    ffi::zangjulf_move_area(handle, station, area, task, asks, &mut cost)
                 }
                 Edit::Declare(text) => {
                     ffi::zangjulf_declare(handle, text.as_ptr(), text.len(), asks, &mut cost)
@@ -29,15 +29,17 @@ impl Line {
         Ok(cost)
     }
 
-    /// Carries an edit out: what it did. Faults 1 to 13 and 31 to 35, the lowest that holds, a project's fault where a
-    /// declared text is no group's, `ChangesFull` where none of these holds and the line keeps changes and has as many as it
-    /// may, and `Memory`; then nothing changed.
+    /// Carries an edit out: what it did, and which tasks wait after it ([`Cost::waits`]). `UnknownAlias` to `EpochsSpent` and
+    /// `AliasTaken` to `TooManySlaves`, the lowest that holds; a project's fault if a declared text is no group's; `Memory`; then
+    /// nothing changed.
     ///
     /// ```
     /// # fn main() -> Result<(), Box<dyn std::error::Error>> {
     /// # let mut line = zangjulf::Line::open(include_bytes!("../../../examples/tool_changer.toml"))?;
     /// let done = line.edit(&zangjulf::Edit::Connect(100))?;
     /// assert_eq!(done.epoch, 1);
+    /// // every block is owed still, so all tasks wait that have one
+    /// assert_eq!(done.waits & 0b11, 0b11);
     /// let again = line.edit(&zangjulf::Edit::Connect(100));
     /// assert_eq!(again, Err(zangjulf::Fault::AlreadyPresent));
     /// # Ok(())

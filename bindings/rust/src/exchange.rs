@@ -1,47 +1,41 @@
 //! Register writes and process data: what is sent, and what arrives.
 
-use crate::faults::Fault;
+use crate::faults::{Detail, Fault};
 use crate::ffi;
 use crate::line::{done, Line};
-use crate::answers::{BlockOutcome, BlockOutcomeKind, Change, Image, Outcome, OutcomeKind, Write, Writes};
+use crate::answers::{BlockOutcome, BlockOutcomeKind, Image, Outcome, OutcomeKind, State, Write, Writes};
 
-/// What an arrival is.
+/// What a frame that came back answers.
 #[derive(Clone, Debug)]
 pub enum Arrival<'a> {
-    /// It answers frames of tasks.
-    Answered {
-        /// The serial of the sending that it answers.
+    /// A sending of tasks.
+    Tasks {
+        /// The serial of the frame.
         serial: u64,
         /// What it is for each datagram, in the frame's order.
         outcomes: Outcomes<'a>,
     },
-    /// It answers a write of one register block: the block is known.
-    WriteDone(Written),
-    /// It answers a write of one register block that no slave took: the block stays owed.
-    WriteMissed(Written),
-    /// It answers a frame of several register writes.
-    Writes {
-        /// The serial of the sending that it answers.
+    /// A frame of register writes, of one block or of several.
+    Blocks {
+        /// The serial of the frame.
         serial: u64,
         /// What it is for each block, in the frame's order.
         blocks: BlockOutcomes<'a>,
     },
-    /// It answers nothing that is awaited.
+    /// Nothing that is awaited.
     Stale {
         /// The serial that the frame bears.
         serial: u64,
     },
 }
 
-/// The register write that an arrival answers.
-#[derive(Clone, Copy, Debug, PartialEq, Eq)]
-pub struct Written {
-    /// The serial of its sending.
-    pub serial: u64,
-    /// The slave's station address.
-    pub station: u16,
-    /// Its block's first register.
-    pub start: u16,
+/// What was sent of tasks.
+#[derive(Clone, Debug)]
+pub struct Sent<'a> {
+    /// The serial of the first frame; the others have the next ones.
+    pub first_serial: u64,
+    /// The frames, one after another.
+    pub frames: Frames<'a>,
 }
 
 /// What an arrival is for each datagram.
@@ -113,12 +107,6 @@ pub struct Frames<'a> {
     left: &'a [u8],
 }
 
-impl<'a> Frames<'a> {
-    pub(crate) fn of(left: &'a [u8]) -> Frames<'a> {
-        Frames { left }
-    }
-}
-
 impl<'a> Iterator for Frames<'a> {
     type Item = &'a [u8];
 
@@ -154,8 +142,8 @@ impl Line {
         done(unsafe { ffi::zangjulf_post(&mut self.handle, task, epoch, bytes.as_ptr(), bytes.len()) }, 0)
     }
 
-    /// Sends the first owed register block: its frame is at the front of `out`; 60 bytes are enough. A write that is
-    /// lost is sent again by the next call. `NothingOwed`, `SerialsSpent`, `Room` with the bytes needed; then nothing changed,
+    /// Sends the first owed register block: its frame is at the front of `out`; 60 bytes are enough. The next call sends a block that
+    /// is still owed again. `NothingOwed`, `SerialsSpent`, `Room` with the bytes needed; then nothing changed,
     /// `out` neither.
     ///
     /// ```
@@ -172,14 +160,14 @@ impl Line {
     pub fn next_write<'a>(&mut self, out: &'a mut [u8]) -> Result<Write<'a>, Fault> {
         let mut write = ffi::Write::default();
         let number = unsafe { ffi::zangjulf_next_write(&mut self.handle, out.as_mut_ptr(), out.len(), &mut write) };
-        done(number, write.size)?;
-        Ok(Write { frame: &out[..write.size], block: write.block })
+        done(number, write.size as usize)?;
+        Ok(Write { frame: &out[..write.size as usize], block: write.block })
     }
 
     /// Sends the first owed register blocks in one frame, as many as it holds: the frame is at the front of `out`, for which
-    /// [`crate::FRAME`] bytes are enough. A frame that is lost is sent again by the next call. One block has the frame of
-    /// [`Line::next_write`], and is answered as that is. `NothingOwed`, `SerialsSpent`, `Room` with the bytes needed; then nothing
-    /// changed, `out` neither.
+    /// [`crate::FRAME`] bytes are enough. The next call sends blocks that are still owed again, and then an answer to the earlier frame
+    /// confirms none of them: wait for a frame longer than a round trip takes. `NothingOwed`, `SerialsSpent`, `Room` with the bytes
+    /// needed; then nothing changed, `out` neither.
     ///
     /// ```
     /// # fn main() -> Result<(), Box<dyn std::error::Error>> {
@@ -191,7 +179,7 @@ impl Line {
     /// assert_eq!(writes.blocks, 12);
     /// let mut frame = writes.frame.to_vec();
     /// slaves.iter_mut().for_each(|slave| slave.process(&mut frame));
-    /// let Arrival::Writes { serial: 0, mut blocks } = line.arrive(&frame)? else { panic!("several writes") };
+    /// let Arrival::Blocks { serial: 0, mut blocks } = line.arrive(&frame)? else { panic!("register writes") };
     /// assert!(blocks.all(|block| block.kind == BlockOutcomeKind::Written));
     /// assert_eq!(line.owed(), 0);
     /// # Ok(())
@@ -200,66 +188,70 @@ impl Line {
     pub fn next_writes<'a>(&mut self, out: &'a mut [u8]) -> Result<Writes<'a>, Fault> {
         let mut writes = ffi::Writes::default();
         let number = unsafe { ffi::zangjulf_next_writes(&mut self.handle, out.as_mut_ptr(), out.len(), &mut writes) };
-        done(number, writes.size)?;
-        Ok(Writes { frame: &out[..writes.size], blocks: writes.blocks })
+        done(number, writes.size as usize)?;
+        Ok(Writes { frame: &out[..writes.size as usize], blocks: writes.blocks })
     }
 
-    /// The slave with a station address may have lost its registers, as one that was switched off and on: each of its register
-    /// blocks is owed again, and nothing else changes. A write to it that was sent before confirms nothing, and neither does any
-    /// that was sent before once another one is sent. `UnknownStation`, `Absent`; then nothing changed.
+    /// A slave of the line may have lost its registers, as one that was switched off and on: each of its register blocks is owed again,
+    /// and nothing else changes. A write that was sent to it before confirms nothing any more. `UnknownStation`, `Absent`; then nothing
+    /// changed.
     ///
     /// ```
     /// # fn main() -> Result<(), Box<dyn std::error::Error>> {
     /// # let mut line = zangjulf::Line::open(include_bytes!("../../../examples/tool_changer.toml"))?;
     /// # let mut slaves = [1001, 1002, 1003, 1004].map(|station| zangjulf::Slave::new(0, station));
     /// # let mut out = [0; zangjulf::FRAME];
-    /// while line.owed() > 0 {
-    ///     let mut frame = line.next_write(&mut out)?.frame.to_vec();
-    ///     slaves.iter_mut().for_each(|slave| slave.process(&mut frame));
-    ///     assert!(matches!(line.arrive(&frame)?, zangjulf::Arrival::WriteDone(_)));
-    /// }
+    /// let mut frame = line.next_writes(&mut out)?.frame.to_vec();
+    /// slaves.iter_mut().for_each(|slave| slave.process(&mut frame));
+    /// line.arrive(&frame)?;
     /// // axis X has an output and an input area, two blocks each
-    /// line.forget(1002)?;
+    /// line.slave_lost(1002)?;
     /// assert_eq!(line.owed(), 4);
-    /// assert_eq!(line.forget(2001), Err(zangjulf::Fault::Absent));
+    /// assert_eq!(line.slave_lost(2001), Err(zangjulf::Fault::Absent));
     /// # Ok(())
     /// # }
     /// ```
-    pub fn forget(&mut self, station: u16) -> Result<(), Fault> {
-        done(unsafe { ffi::zangjulf_forget(&mut self.handle, station) }, 0)
+    pub fn slave_lost(&mut self, station: u16) -> Result<(), Fault> {
+        done(unsafe { ffi::zangjulf_slave_lost(&mut self.handle, station) }, 0)
     }
 
-    /// Sends tasks, 1 to 8 and none twice: their frames are at the front of `out`. [`crate::FRAMES`] bytes are enough for them.
-    /// `NoSuchTask`, `Unprogrammed` with the number of owed blocks, `SerialsSpent`, `Room` with the bytes needed, `ChangesFull`
-    /// where the line keeps changes and has as many as it may, `Misused` of other tasks; then nothing is sent, and nothing
-    /// changed, `out` neither. It takes no memory.
+    /// Sends ready tasks, 1 to 8 and none twice: their frames are at the front of `out`, for which [`crate::FRAMES`] bytes are enough.
+    /// A task is ready if no owed register block concerns it, and no slave outside the line may take part in it. So a tool that comes
+    /// and is cleared makes its own task wait alone. `NoSuchTask`; `Waits` with the first task that does, and why; `SerialsSpent`;
+    /// `Room` with the bytes needed; `Misused` of other tasks; then nothing is sent, and nothing changed, `out` neither.
     ///
     /// ```
     /// # fn main() -> Result<(), Box<dyn std::error::Error>> {
-    /// # let mut line = zangjulf::Line::open(include_bytes!("../../../examples/tool_changer.toml"))?;
+    /// # let mut line = zangjulf::Line::open(include_bytes!("../../../examples/own_tasks.toml"))?;
     /// # let mut slaves = [1001, 1002, 1003, 1004].map(|station| zangjulf::Slave::new(0, station));
-    /// // no task is sent while register blocks are owed
+    /// use zangjulf::{Edit, Fault};
     /// let mut out = vec![0; zangjulf::FRAMES];
-    /// assert_eq!(line.send(&[0], &mut out).err(), Some(zangjulf::Fault::Unprogrammed(12)));
-    /// // each is written, and the slaves take it
-    /// while line.owed() > 0 {
-    ///     let mut frame = line.next_write(&mut out)?.frame.to_vec();
-    ///     slaves.iter_mut().for_each(|slave| slave.process(&mut frame));
-    ///     assert!(matches!(line.arrive(&frame)?, zangjulf::Arrival::WriteDone(_)));
-    /// }
-    /// // then tasks 0 and 1 go out, each in a frame of its own or both in one
-    /// let frames = line.send(&[0, 1], &mut out)?;
-    /// assert_eq!(frames.map(|frame| frame.len()).sum::<usize>(), 68);
+    /// let mut frame = line.next_writes(&mut out)?.frame.to_vec();
+    /// slaves.iter_mut().for_each(|slave| slave.process(&mut frame));
+    /// line.arrive(&frame)?;
+    /// // the gripper comes: anything may be in its FMMUs, until they are zeros
+    /// let cost = line.edit(&Edit::Connect(100))?;
+    /// assert_eq!((line.ready(), line.held_by(0, 0), cost.waits), (0, Some(2001), 1 << 2));
+    /// line.cleared(2001)?;
+    /// // its own task waits for its four blocks, and the others are sent
+    /// let Err(Fault::Waits(why)) = line.send(&[2], &mut out) else { panic!("the gripper's task waits") };
+    /// assert_eq!((why.task, why.blocks, why.outside), (2, 4, 0));
+    /// let sent = line.send(&[0, 1], &mut out)?;
+    /// assert_eq!(sent.first_serial, 1);
+    /// assert_eq!(sent.frames.map(|frame| frame.len()).sum::<usize>(), 68);
     /// # Ok(())
     /// # }
     /// ```
-    pub fn send<'a>(&mut self, tasks: &[u8], out: &'a mut [u8]) -> Result<Frames<'a>, Fault> {
+    pub fn send<'a>(&mut self, tasks: &[u8], out: &'a mut [u8]) -> Result<Sent<'a>, Fault> {
         let mut sent = ffi::Sent::default();
         let (bytes, length) = (out.as_mut_ptr(), out.len());
+        let (handle, none) = (&mut self.handle, std::ptr::null_mut());
         let number =
-            unsafe { ffi::zangjulf_send(&mut self.handle, tasks.as_ptr(), tasks.len(), bytes, length, &mut sent) };
-        done(number, if number == 17 { sent.owed as usize } else { sent.size })?;
-        Ok(Frames::of(&out[..sent.size]))
+            unsafe { ffi::zangjulf_send(handle, tasks.as_ptr(), tasks.len(), bytes, length, none, 0, &mut sent) };
+        match number {
+            0 => Ok(Sent { first_serial: sent.first_serial, frames: Frames { left: &out[..sent.size as usize] } }),
+            fault => Err(Fault::of(fault, Detail { number: sent.size as usize, waits: sent.waits })),
+        }
     }
 
     /// The frame of one datagram of a task as it would be sent next, at the front of `out`; none where there is none. `Room`.
@@ -280,23 +272,23 @@ impl Line {
         match unsafe { ffi::zangjulf_preview(&self.handle, task, datagram, bytes, length, &mut size) } {
             0 => Ok(Some(&out[..size])),
             100 => Ok(None),
-            fault => Err(Fault::of(fault, size)),
+            fault => done(fault, size).map(|()| None),
         }
     }
 
-    /// A frame arrives: any bytes, without the check sequence. The faults 20 to 27 of a frame that can't be read, `ChangesFull`
-    /// where the line keeps changes and has no room for the changes of all good answers, `Memory`, but never of a line that
-    /// keeps no changes; then nothing changed.
+    /// Takes a frame that came back: any bytes, without the check sequence. `Short` to `IndexMismatch` of one that can't be read; then
+    /// nothing changed. The outcomes are lent from the line.
     ///
     /// ```
     /// # fn main() -> Result<(), Box<dyn std::error::Error>> {
     /// # let mut line = zangjulf::Line::open(include_bytes!("../../../examples/tool_changer.toml"))?;
-    /// use zangjulf::Arrival;
+    /// use zangjulf::{Arrival, BlockOutcomeKind};
     /// let mut out = [0; zangjulf::FRAME];
     /// let sent = line.next_write(&mut out)?.frame;
     /// // it comes back as it was sent: no slave took it
-    /// let Arrival::WriteMissed(written) = line.arrive(sent)? else { panic!("a register write") };
-    /// assert_eq!((written.serial, written.station, written.start), (0, 1002, 0x0810));
+    /// let Arrival::Blocks { serial: 0, mut blocks } = line.arrive(sent)? else { panic!("a register write") };
+    /// let block = blocks.next().expect("one block");
+    /// assert_eq!((block.kind, block.station, block.start), (BlockOutcomeKind::Missed, 1002, 0x0810));
     /// assert!(matches!(line.arrive(sent)?, Arrival::Stale { serial: 0 }));
     /// assert_eq!(line.arrive(&[]).err(), Some(zangjulf::Fault::Short));
     /// # Ok(())
@@ -304,36 +296,21 @@ impl Line {
     /// ```
     pub fn arrive(&mut self, bytes: &[u8]) -> Result<Arrival<'_>, Fault> {
         let mut it = ffi::Arrival::default();
-        let outcomes = &mut *self.outcomes;
-        let number = unsafe {
-            ffi::zangjulf_arrive(
-                &mut self.handle,
-                bytes.as_ptr(),
-                bytes.len(),
-                outcomes.as_mut_ptr(),
-                outcomes.len(),
-                &mut it,
-            )
-        };
-        let written = Written { serial: it.serial, station: it.station, start: it.start };
-        match number {
-            0 => {
-                let outcomes = self.outcomes[..it.datagrams].iter();
-                Ok(Arrival::Answered { serial: it.serial, outcomes: Outcomes { left: outcomes } })
-            }
-            101 => Ok(Arrival::WriteDone(written)),
-            102 => Ok(Arrival::WriteMissed(written)),
-            103 => Ok(Arrival::Stale { serial: it.serial }),
-            104 => {
-                let blocks = self.outcomes[..it.datagrams].iter();
-                Ok(Arrival::Writes { serial: it.serial, blocks: BlockOutcomes { left: blocks } })
-            }
-            fault => Err(Fault::of(fault, 0)),
-        }
+        let (outcomes, room) = (self.outcomes.as_mut_ptr(), self.outcomes.len());
+        let handle = &mut self.handle;
+        let number =
+            unsafe { ffi::zangjulf_arrive(handle, bytes.as_ptr(), bytes.len(), outcomes, room, &mut it) };
+        done(number, 0)?;
+        let (serial, left) = (it.serial, self.outcomes[..usize::from(it.datagrams)].iter());
+        Ok(match it.kind {
+            1 => Arrival::Tasks { serial, outcomes: Outcomes { left } },
+            2 => Arrival::Blocks { serial, blocks: BlockOutcomes { left } },
+            _ => Arrival::Stale { serial },
+        })
     }
 
     /// What a task, 0 to 7, reads: of each of its datagrams the data of its last good answer since the last edit that changed the task,
-    /// at the datagram's offset in `out`, for which [`crate::IMAGE`] bytes are enough. `NoSuchTask`, `Room` with the bytes needed.
+    /// at the datagram's offset in `out`, for which [`crate::IMAGE`] bytes are enough. `NoSuchTask`, `Room`.
     ///
     /// ```
     /// # fn main() -> Result<(), Box<dyn std::error::Error>> {
@@ -342,7 +319,7 @@ impl Line {
     /// let image = line.read(0, &mut out)?;
     /// // nothing has arrived yet
     /// assert_eq!((image.epoch, image.datagrams, image.bytes), (0, 1, &[0; 26][..]));
-    /// assert_eq!(image.serial(0), None);
+    /// assert_eq!((image.state, image.serial(0)), (zangjulf::State::NoData, None));
     /// # Ok(())
     /// # }
     /// ```
@@ -353,33 +330,16 @@ impl Line {
         let number = unsafe {
             ffi::zangjulf_read(&self.handle, task, bytes, length, serials.as_mut_ptr(), serials.len(), &mut it)
         };
-        done(number, it.size)?;
-        let ffi::Image { epoch, task_epoch, datagrams, size, has } = it;
-        Ok(Image { epoch, task_epoch, datagrams, bytes: &out[..size], has, serials })
-    }
-
-    /// The next change that was not taken yet, its data at the front of `out`, for which 1,486 bytes are enough; none where there
-    /// is none, and of a line that was opened to keep none. `Room` with the bytes needed: the next call answers it again.
-    ///
-    /// ```
-    /// # fn main() -> Result<(), Box<dyn std::error::Error>> {
-    /// # let mut line = zangjulf::Line::open_with_changes(include_bytes!("../../../examples/tool_changer.toml"), 1)?;
-    /// line.edit(&zangjulf::Edit::Connect(200))?;
-    /// let mut data = [0; 1486];
-    /// assert_eq!(line.next_change(&mut data)?, Some(zangjulf::Change::Swapped));
-    /// assert_eq!(line.next_change(&mut data)?, None);
-    /// # Ok(())
-    /// # }
-    /// ```
-    pub fn next_change<'a>(&mut self, out: &'a mut [u8]) -> Result<Option<Change<'a>>, Fault> {
-        let mut it = ffi::Change::default();
-        let number = unsafe { ffi::zangjulf_next_change(&mut self.handle, out.as_mut_ptr(), out.len(), &mut it) };
-        let size = usize::from(it.size);
-        match (number, it.kind) {
-            (100, _) => Ok(None),
-            (0, 1) => Ok(Some(Change::Swapped)),
-            (0, _) => Ok(Some(Change::Good { task: it.task, datagram: it.datagram, data: &out[..size] })),
-            (fault, _) => Err(Fault::of(fault, size)),
-        }
+        done(number, 0)?;
+        Ok(Image {
+            first_serial: it.first_serial,
+            state: State::of(it.state),
+            epoch: it.epoch,
+            task_epoch: it.task_epoch,
+            datagrams: it.datagrams,
+            bytes: &out[..it.size as usize],
+            has: it.has,
+            serials,
+        })
     }
 }

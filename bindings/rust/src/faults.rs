@@ -1,7 +1,33 @@
 //! Why calls are refused.
 
+use crate::Waits;
 use std::error::Error;
 use std::fmt;
+
+/// What goes with a fault: a number, or why a task waits.
+#[derive(Clone, Copy, Default)]
+pub(crate) struct Detail {
+    pub number: usize,
+    pub waits: Waits,
+}
+
+impl From<Detail> for u8 {
+    fn from(detail: Detail) -> u8 {
+        detail.number as u8
+    }
+}
+
+impl From<Detail> for usize {
+    fn from(detail: Detail) -> usize {
+        detail.number
+    }
+}
+
+impl From<Detail> for Waits {
+    fn from(detail: Detail) -> Waits {
+        detail.waits
+    }
+}
 
 /// Declares the faults: name, what goes with it, number, and text, as include/zangjulf.h has them.
 macro_rules! faults {
@@ -14,9 +40,9 @@ macro_rules! faults {
 
         impl Fault {
             /// The fault of a number, and what goes with it.
-            pub(crate) fn of(number: u8, detail: usize) -> Fault {
+            pub(crate) fn of(number: u8, detail: Detail) -> Fault {
                 match number {
-                    $($number => Fault::$name $((detail as $kind))?,)*
+                    $($number => Fault::$name $((<$kind>::from(detail)))?,)*
                     other => unreachable!("no call answers {other}"),
                 }
             }
@@ -28,7 +54,7 @@ macro_rules! faults {
                 }
             }
 
-            /// Its name, as `Unprogrammed`.
+            /// Its name, as `NothingOwed`.
             pub fn name(self) -> &'static str {
                 match self {
                     $(Fault::$name { .. } => stringify!($name),)*
@@ -43,9 +69,11 @@ macro_rules! faults {
             }
         }
 
-        /// Each fault, with 0 for what goes with it.
+        /// Each fault, with zeros for what goes with it.
         #[cfg(test)]
-        const ALL: &[Fault] = &[$(Fault::$name $((0 as $kind))?,)*];
+        fn all() -> Vec<Fault> {
+            vec![$(Fault::$name $((<$kind>::default()))?,)*]
+        }
     };
 }
 
@@ -63,9 +91,8 @@ faults! {
     AreaTooBig = 11, "the area would have more bits than a datagram, 11,888";
     TooManyDatagrams(u8) = 12, "a task would need more than 16 datagrams";
     EpochsSpent = 13, "the epoch is the last one, 4,294,967,295";
-    StalePost = 15, "the post was made before the last edit that changed its task, or for an epoch to come";
-    PostLength = 16, "the post does not have the task's number of output bytes";
-    Unprogrammed(u32) = 17, "register blocks are owed: no task is sent before they are written";
+    StalePost = 15, "the epoch is before the last edit that changed the task, or above the present one";
+    PostLength = 16, "the post does not have as many bytes as the task has outputs";
     NothingOwed = 18, "no register block is owed";
     SerialsSpent = 19, "too few serials are left below 2^40 - 1";
     Short = 20, "the frame has fewer bytes than the shortest one";
@@ -83,11 +110,10 @@ faults! {
     VariableTaken = 33, "a declared slave offers one of the variables";
     TooManyGroups = 34, "more than 512 groups would be declared, the mandatory one counted";
     TooManySlaves = 35, "more than 2,048 slaves would be declared";
-    Waits(u8) = 36, "a task waits: register blocks that concern it are owed, or a slave outside the line may take part in it";
-    Nothing = 100, "there is no such thing";
-    IsInput = 105, "the variable is an input: no value is put into it";
+    Waits(Waits) = 36, "a task waits: owed register blocks concern it, or a slave outside the line may map it";
+    Nothing = 100, "there is no such variable, datagram, slave or block";
+    IsInput = 105, "the variable is an input: it takes no value";
     TooWide = 106, "the value needs more bits than there are";
-    NoSpare = 107, "four posts of the seat wait";
     ProjectNotToml = 201, "the text is no TOML document in UTF-8";
     ProjectMissingField = 202, "a needed key is absent, or a value is of another kind";
     ProjectOutOfRange = 203, "a value is outside its range";
@@ -99,9 +125,8 @@ faults! {
     ProjectUnknownPdo = 209, "an assigned PDO is not one offered PDO";
     ProjectAreaTooBig = 210, "an area has more bits than a datagram, 11,888";
     ProjectNotOneGroup = 212, "the text is a project, but not one group's";
-    ChangesFull = 252, "the line keeps no more changes: ask for those that it has first";
-    Busy = 253, "another call with the handle runs";
-    Misused = 254, "what the call asks of its caller does not hold";
+    Busy = 253, "another call with the handle runs: nothing was done";
+    Misused = 254, "an argument is outside its range, or the handle is not one for this call";
     Closed = 255, "the handle is closed";
 }
 
@@ -110,8 +135,9 @@ impl fmt::Display for Fault {
         out.write_str(self.text())?;
         match self {
             Fault::TooManyDatagrams(task) => write!(out, " (task {task})"),
-            Fault::Waits(task) => write!(out, " (task {task})"),
-            Fault::Unprogrammed(owed) => write!(out, " ({owed} are owed)"),
+            Fault::Waits(Waits { task, blocks, outside, .. }) => {
+                write!(out, " (task {task}: {blocks} blocks owed, {outside} FMMUs outside the line)")
+            }
             Fault::Room(needed) if *needed > 0 => write!(out, " ({needed} bytes are needed)"),
             _ => Ok(()),
         }
@@ -122,7 +148,7 @@ impl Error for Fault {}
 
 #[cfg(test)]
 mod tests {
-    use super::{Fault, ALL};
+    use super::{all, Detail, Fault};
 
     /// A name as the header writes it: NOT_TOML for NotToml.
     fn header_name(name: &str) -> String {
@@ -144,9 +170,9 @@ mod tests {
             let line = format!("{}, {}, \"{}\")", header_name(fault.name()), fault.number(), fault.text());
             answers.iter().any(|answer| answer.starts_with(&line))
         };
-        assert_eq!(ALL.iter().find(|fault| !is_listed(fault)), None);
-        // what isn't a fault: done, and four answers of an arrival
-        assert_eq!(answers.len(), ALL.len() + 5);
-        assert!(ALL.iter().all(|fault| Fault::of(fault.number(), 0) == *fault));
+        assert_eq!(all().iter().find(|fault| !is_listed(fault)), None);
+        // all but one are faults
+        assert_eq!(answers.len(), all().len() + 1);
+        assert!(all().iter().all(|fault| Fault::of(fault.number(), Detail::default()) == *fault));
     }
 }

@@ -1,12 +1,13 @@
 //! An open line: opening, closing, and what can be looked up.
 
-use crate::faults::Fault;
+use crate::faults::{Detail, Fault};
 use crate::ffi;
-use crate::answers::{Block, Counters, Datagram, Dir, OwedBlock, Part, Place};
+use crate::answers::{Block, Counters, Datagram, Dir, ImageSizes, OwedBlock, Place};
 
-/// A line that is open. It is closed when it is dropped.
+/// A line that is open. It is closed when it is dropped: its seats are shown a last image that says so.
 ///
-/// Look-ups take `&Line`, so that threads may look at the same time while none changes the line.
+/// A line belongs to one thread at a time, and may move between threads (`Send`, not `Sync`). Tasks have a [`Seat`](crate::Seat) each,
+/// and threads that only look have a [`Look`](crate::Look).
 #[derive(Debug)]
 pub struct Line {
     pub(crate) handle: ffi::Handle,
@@ -15,13 +16,11 @@ pub struct Line {
 }
 
 // What a handle holds is memory of its own, and no thread's identity counts, which is proved of the library's handle (`Send`).
-// Look-ups write no word of it, so that threads may make them at the same time, which is only tested (docs/use/EMBEDDING.md).
 unsafe impl Send for Line {}
-unsafe impl Sync for Line {}
 
 impl Drop for Line {
     fn drop(&mut self) {
-        unsafe { ffi::zangjulf_close(&mut self.handle) }
+        unsafe { ffi::zangjulf_close(&mut self.handle) };
     }
 }
 
@@ -29,13 +28,25 @@ impl Drop for Line {
 pub(crate) fn done(number: u8, detail: usize) -> Result<(), Fault> {
     match number {
         0 => Ok(()),
-        number => Err(Fault::of(number, detail)),
+        number => Err(Fault::of(number, Detail { number: detail, ..Detail::default() })),
+    }
+}
+
+/// A place as the library writes it.
+fn place_of(place: &ffi::Place) -> Place {
+    Place {
+        task: place.task,
+        datagram: place.datagram,
+        bit: place.bit,
+        bits: place.bits,
+        dir: if place.is_input { Dir::In } else { Dir::Out },
+        image_bit: place.image_bit,
     }
 }
 
 impl Line {
-    /// Opens the project of a text: the mandatory group alone is present, and no changes are kept. The faults of a project,
-    /// `TooManyDatagrams` with the lowest such task, `Memory`.
+    /// Opens the project of a text: the mandatory group alone is present, and the line has no seats that only look. The faults of a
+    /// project, `TooManyDatagrams` with the lowest such task, `Memory`.
     ///
     /// ```
     /// # fn main() -> Result<(), Box<dyn std::error::Error>> {
@@ -50,20 +61,19 @@ impl Line {
     /// # }
     /// ```
     pub fn open(text: &[u8]) -> Result<Line, Fault> {
-        Line::open_with_changes(text, 0)
+        Line::open_with_lookers(text, 0)
     }
 
-    /// Opens the project of a text as [`Line::open`] does, and keeps so many changes of what tasks read, until
-    /// [`Line::next_change`] asks for them: none where `changes` is 0. A call that would add more is refused as `ChangesFull`, and
-    /// the changes that are there stay.
+    /// Opens the project of a text as [`Line::open`] does, with so many seats that only look, 64 at most ([`Line::look`]). `Misused` of
+    /// more.
     ///
     /// ```
     /// # fn main() -> Result<(), Box<dyn std::error::Error>> {
     /// let text = include_bytes!("../../../examples/tool_changer.toml");
-    /// let mut line = zangjulf::Line::open_with_changes(text, 1)?;
-    /// line.edit(&zangjulf::Edit::Connect(200))?;
-    /// assert_eq!(line.edit(&zangjulf::Edit::Disconnect(200)), Err(zangjulf::Fault::ChangesFull));
-    /// assert_eq!(line.next_change(&mut [])?, Some(zangjulf::Change::Swapped));
+    /// let mut line = zangjulf::Line::open_with_lookers(text, 1)?;
+    /// let mut look = line.look(0, 1)?;
+    /// assert_eq!(look.view(&mut [0; 2])?.showing, 1);
+    /// assert_eq!(line.look(1, 1).unwrap_err(), zangjulf::Fault::Misused);
     /// # Ok(())
     /// # }
     /// ```
@@ -71,13 +81,14 @@ impl Line {
     /// # Panics
     ///
     /// Where the library that is linked has another binary interface than this crate was written for.
-    pub fn open_with_changes(text: &[u8], changes: u32) -> Result<Line, Fault> {
+    pub fn open_with_lookers(text: &[u8], lookers: u32) -> Result<Line, Fault> {
         let linked = unsafe { ffi::zangjulf_abi() };
         assert_eq!(linked, ffi::ABI, "the library that is linked has another binary interface");
-        let handle = ffi::Handle { is_open: false, at: std::ptr::null_mut() };
+        let handle = ffi::Handle { mark: 0, at: std::ptr::null_mut() };
         let mut line = Line { handle, outcomes: Box::new([ffi::Outcome::default(); 115]) };
+        let options = ffi::Options { size: std::mem::size_of::<ffi::Options>() as u32, lookers };
         let mut task = 0;
-        let number = unsafe { ffi::zangjulf_open(&mut line.handle, text.as_ptr(), text.len(), changes, &mut task) };
+        let number = unsafe { ffi::zangjulf_open(&mut line.handle, &options, text.as_ptr(), text.len(), &mut task) };
         done(number, usize::from(task))?;
         Ok(line)
     }
@@ -165,14 +176,35 @@ impl Line {
     pub fn place(&self, variable: u32) -> Option<Place> {
         let mut place = ffi::Place::default();
         let number = unsafe { ffi::zangjulf_place(&self.handle, variable, &mut place) };
-        (number == 0).then_some(Place {
-            task: place.task,
-            datagram: place.datagram,
-            bit: place.bit,
-            bits: place.bits,
-            dir: if place.is_input { Dir::In } else { Dir::Out },
-            image_bit: place.image_bit,
-        })
+        (number == 0).then(|| place_of(&place))
+    }
+
+    /// The places of variables, as a table after an edit: of each at its index in `places`, none where the line has none for it.
+    /// `Misused` if `places` is shorter than `variables`; then it is as it was.
+    ///
+    /// ```
+    /// # fn main() -> Result<(), Box<dyn std::error::Error>> {
+    /// # let line = zangjulf::Line::open(include_bytes!("../../../examples/tool_changer.toml"))?;
+    /// let mut places = [None; 2];
+    /// line.places(&[2, 101], &mut places)?;
+    /// assert_eq!(places, [line.place(2), None]);
+    /// assert_eq!(line.places(&[2, 101], &mut places[..1]), Err(zangjulf::Fault::Misused));
+    /// # Ok(())
+    /// # }
+    /// ```
+    pub fn places(&self, variables: &[u32], places: &mut [Option<Place>]) -> Result<(), Fault> {
+        if places.len() < variables.len() {
+            return Err(Fault::Misused);
+        }
+        let mut some = [ffi::Place::default(); 32];
+        for (asked, found) in variables.chunks(some.len()).zip(places.chunks_mut(some.len())) {
+            let (variables, room) = (asked.as_ptr(), some.len());
+            done(unsafe { ffi::zangjulf_places(&self.handle, variables, asked.len(), some.as_mut_ptr(), room) }, 0)?;
+            for (place, it) in found.iter_mut().zip(&some[..asked.len()]) {
+                *place = (it.bits > 0).then(|| place_of(it));
+            }
+        }
+        Ok(())
     }
 
     /// The datagram of a task with a number.
@@ -186,10 +218,10 @@ impl Line {
     /// # Ok(())
     /// # }
     /// ```
-    pub fn datagram(&self, task: u8, number: u8) -> Option<Datagram> {
-        let mut datagram = Datagram::default();
-        let answer = unsafe { ffi::zangjulf_datagram(&self.handle, task, number, &mut datagram) };
-        (answer == 0).then_some(datagram)
+    pub fn datagram(&self, task: u8, datagram: u8) -> Option<Datagram> {
+        let mut found = Datagram::default();
+        let number = unsafe { ffi::zangjulf_datagram(&self.handle, task, datagram, &mut found) };
+        (number == 0).then_some(found)
     }
 
     /// The bytes of a task's image; 0 and 0 where there is no such task.
@@ -197,15 +229,15 @@ impl Line {
     /// ```
     /// # fn main() -> Result<(), Box<dyn std::error::Error>> {
     /// # let line = zangjulf::Line::open(include_bytes!("../../../examples/tool_changer.toml"))?;
-    /// let part = line.part(1);
-    /// assert_eq!((part.outputs, part.inputs), (1, 1));
+    /// let sizes = line.image_sizes(1);
+    /// assert_eq!((sizes.outputs, sizes.inputs), (1, 1));
     /// # Ok(())
     /// # }
     /// ```
-    pub fn part(&self, task: u8) -> Part {
-        let mut part = Part::default();
-        unsafe { ffi::zangjulf_part(&self.handle, task, &mut part) };
-        part
+    pub fn image_sizes(&self, task: u8) -> ImageSizes {
+        let mut sizes = ImageSizes::default();
+        unsafe { ffi::zangjulf_image_sizes(&self.handle, task, &mut sizes) };
+        sizes
     }
 
     /// The station address of the slave at a position.
@@ -241,24 +273,23 @@ impl Line {
         Ok(position)
     }
 
-    /// What the slave with a station address adds to the expected working counter of the datagram of a task with a number: 2
-    /// where the datagram carries outputs of it, and 1 where it carries inputs. None where there is no such datagram, or no such
-    /// slave in the line.
+    /// What the slave with a station address adds to the expected working counter of a datagram of a task: 2 if the datagram carries
+    /// outputs of it, plus 1 if it carries inputs. None if there is no such datagram, or no such slave in the line.
     ///
     /// ```
     /// # fn main() -> Result<(), Box<dyn std::error::Error>> {
     /// # let line = zangjulf::Line::open(include_bytes!("../../../examples/tool_changer.toml"))?;
     /// // axis X has outputs and inputs there, and the bus coupler has neither
-    /// assert_eq!(line.share(0, 0, 1002), Some(3));
-    /// assert_eq!(line.share(0, 0, 1001), Some(0));
-    /// assert_eq!(line.share(0, 0, 2001), None);
+    /// assert_eq!(line.expected_of(0, 0, 1002), Some(3));
+    /// assert_eq!(line.expected_of(0, 0, 1001), Some(0));
+    /// assert_eq!(line.expected_of(0, 0, 2001), None);
     /// # Ok(())
     /// # }
     /// ```
-    pub fn share(&self, task: u8, number: u8, station: u16) -> Option<u16> {
-        let mut share = 0;
-        let answer = unsafe { ffi::zangjulf_share(&self.handle, task, number, station, &mut share) };
-        (answer == 0).then_some(share)
+    pub fn expected_of(&self, task: u8, datagram: u8, station: u16) -> Option<u16> {
+        let mut expected = 0;
+        let number = unsafe { ffi::zangjulf_expected_of(&self.handle, task, datagram, station, &mut expected) };
+        (number == 0).then_some(expected)
     }
 
     /// The register block with a number of the slave with a station address, its bytes at the front of `out`; 16 bytes are
@@ -282,12 +313,12 @@ impl Line {
         match answer {
             0 => Ok(Some(block)),
             100 => Ok(None),
-            fault => Err(Fault::of(fault, block.size)),
+            fault => done(fault, block.size).map(|()| None),
         }
     }
 
-    /// How often a datagram, by task and number, was sent, and what arrivals were for it, since the line was opened; none where
-    /// the task is over 7, or the number over 15.
+    /// How often a datagram, by task and number, was sent, and what arrivals were for it, since the line was opened; none if the task
+    /// is over 7, or the datagram over 15.
     ///
     /// ```
     /// # fn main() -> Result<(), Box<dyn std::error::Error>> {

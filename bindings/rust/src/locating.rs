@@ -176,7 +176,7 @@ pub fn locate(text: &[u8]) -> Result<Option<(Fault, Location)>, Fault> {
         201 => Ok(Some((Fault::ProjectNotToml, Location::Text { line: it.line, column: it.column }))),
         number => {
             let location = Location::Places { place: Spot::from(&it.place), first: Spot::from(&it.first) };
-            Ok(Some((Fault::of(number, 0), location)))
+            Ok(Some((Fault::of(number, crate::faults::Detail::default()), location)))
         }
     }
 }

@@ -1,45 +1,10 @@
-//! Tasks that are sent while register blocks of other tasks are owed.
+//! Which tasks wait, for which slaves, and what ends it.
 
-use crate::exchange::Frames;
 use crate::faults::Fault;
 use crate::ffi;
 use crate::line::{done, Line};
 
 impl Line {
-    /// Sends ready tasks, 1 to 8 and none twice: their frames are at the front of `out`. [`crate::FRAMES`] bytes are enough for them.
-    /// A task is ready if no owed register block concerns it and no slave outside the line may take part in it. So a tool that comes
-    /// and is cleared makes its own task wait alone. `NoSuchTask`, `Waits` with the first task that does, `SerialsSpent`, `Room` with
-    /// the bytes needed, `ChangesFull`, `Misused` as [`Line::send`]; then nothing is sent, and nothing changed, `out` neither. It takes
-    /// no memory.
-    ///
-    /// ```
-    /// # fn main() -> Result<(), Box<dyn std::error::Error>> {
-    /// # let mut line = zangjulf::Line::open(include_bytes!("../../../examples/own_tasks.toml"))?;
-    /// # let mut slaves = [1001, 1002, 1003, 1004].map(|station| zangjulf::Slave::new(0, station));
-    /// # let mut out = vec![0; zangjulf::FRAMES];
-    /// let mut frame = line.next_writes(&mut out)?.frame.to_vec();
-    /// slaves.iter_mut().for_each(|slave| slave.process(&mut frame));
-    /// line.arrive(&frame)?;
-    /// // the gripper comes: anything may be in its FMMUs, until they are zeros
-    /// line.edit(&zangjulf::Edit::Connect(100))?;
-    /// assert_eq!((line.ready(), line.held_by(0, 0)), (0, Some(2001)));
-    /// line.cleared(2001)?;
-    /// // its own task waits for its blocks, and the axes go on
-    /// assert_eq!(line.ready(), !(1 << 2));
-    /// assert_eq!(line.send_ready(&[2], &mut out).err(), Some(zangjulf::Fault::Waits(2)));
-    /// assert_eq!(line.send_ready(&[0, 1], &mut out)?.count(), 1);
-    /// # Ok(())
-    /// # }
-    /// ```
-    pub fn send_ready<'a>(&mut self, tasks: &[u8], out: &'a mut [u8]) -> Result<Frames<'a>, Fault> {
-        let mut sent = ffi::SentReady::default();
-        let (bytes, length) = (out.as_mut_ptr(), out.len());
-        let number =
-            unsafe { ffi::zangjulf_send_ready(&mut self.handle, tasks.as_ptr(), tasks.len(), bytes, length, &mut sent) };
-        done(number, if number == 36 { usize::from(sent.waits.task) } else { sent.size })?;
-        Ok(Frames::of(&out[..sent.size]))
-    }
-
     /// The ready tasks: bit t is 1 if task t is ready.
     ///
     /// ```
@@ -76,7 +41,7 @@ impl Line {
 
     /// The FMMUs of the slave with a station address are zeros now, and no write that was sent to it earlier will still pass it. Say it
     /// once the frame of [`crate::fmmu_off`] came back with counter 1, or after the slave powered up; of a tool that comes after its
-    /// connection, which makes its registers unknown. The blocks of a slave in the line are owed again, as after [`Line::forget`].
+    /// connection, which makes its registers unknown. The blocks of a slave in the line are owed again, as after [`Line::slave_lost`].
     /// `UnknownStation`; then nothing changed.
     ///
     /// ```

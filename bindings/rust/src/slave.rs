@@ -32,7 +32,8 @@ impl Slave {
     /// let mut out = [0; zangjulf::FRAME];
     /// let mut frame = line.next_write(&mut out)?.frame.to_vec();
     /// slave.process(&mut frame);
-    /// assert!(matches!(line.arrive(&frame)?, zangjulf::Arrival::WriteDone(_)));
+    /// assert!(matches!(line.arrive(&frame)?, zangjulf::Arrival::Blocks { .. }));
+    /// assert_eq!(line.owed(), 11);
     /// # Ok(())
     /// # }
     /// ```

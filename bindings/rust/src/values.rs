@@ -5,27 +5,29 @@ use crate::ffi;
 use crate::line::{done, Line};
 
 impl Line {
-    /// Puts a value into a task's outputs, at the place that an output variable has in the present line; every other bit stays.
-    /// `Nothing` where the line has no place for the variable, `IsInput`, `TooWide`, `Room`; then the outputs are as they were.
+    /// Puts a value into a task's outputs, which will be posted for an epoch, at the place of an output variable; every other bit stays.
+    /// `Nothing` if the line has no place for the variable, `StalePost` if the epoch is below the task's epoch or above the present one,
+    /// `IsInput`, `TooWide`, `Room`; then the outputs are as they were.
     ///
     /// ```
     /// # fn main() -> Result<(), Box<dyn std::error::Error>> {
     /// # let line = zangjulf::Line::open(include_bytes!("../../../examples/tool_changer.toml"))?;
-    /// let mut outputs = vec![0; usize::from(line.part(0).outputs)];
+    /// let mut outputs = vec![0; usize::from(line.image_sizes(0).outputs)];
     /// // the target position of axis X, after 16 bits
-    /// line.put_value(2, 0x0102_0304, &mut outputs)?;
+    /// line.put_value(2, line.epoch(), 0x0102_0304, &mut outputs)?;
     /// assert_eq!(outputs[..6], [0, 0, 4, 3, 2, 1]);
-    /// assert_eq!(line.put_value(12, 1, &mut outputs), Err(zangjulf::Fault::IsInput));
+    /// assert_eq!(line.put_value(12, 0, 1, &mut outputs), Err(zangjulf::Fault::IsInput));
+    /// assert_eq!(line.put_value(2, 1, 1, &mut outputs), Err(zangjulf::Fault::StalePost));
     /// # Ok(())
     /// # }
     /// ```
-    pub fn put_value(&self, variable: u32, value: u64, outputs: &mut [u8]) -> Result<(), Fault> {
+    pub fn put_value(&self, variable: u32, epoch: u32, value: u64, outputs: &mut [u8]) -> Result<(), Fault> {
         let (bytes, length) = (outputs.as_mut_ptr(), outputs.len());
-        done(unsafe { ffi::zangjulf_put_value(&self.handle, variable, value, bytes, length) }, 0)
+        done(unsafe { ffi::zangjulf_put_value(&self.handle, variable, epoch, value, bytes, length) }, 0)
     }
 
-    /// The value of a variable in its task's image, as [`Line::read`] gives it, at the place that it has in the present line.
-    /// `Nothing` where the line has no place for the variable, `Room`.
+    /// The value of a variable in its task's image of an epoch, as [`Line::read`] returns both. `Nothing` if the line has no place for
+    /// the variable, `StalePost` if the epoch is below the task's epoch or above the present one, `Room`.
     ///
     /// ```
     /// # fn main() -> Result<(), Box<dyn std::error::Error>> {
@@ -33,15 +35,15 @@ impl Line {
     /// let mut data = vec![0; zangjulf::IMAGE];
     /// let image = line.read(0, &mut data)?;
     /// // the position of axis X; the image says whether its datagram has data
-    /// assert_eq!(line.value(12, image.bytes)?, 0);
-    /// assert_eq!(line.value(101, image.bytes), Err(zangjulf::Fault::Nothing));
+    /// assert_eq!(line.value(12, image.epoch, image.bytes)?, 0);
+    /// assert_eq!(line.value(101, image.epoch, image.bytes), Err(zangjulf::Fault::Nothing));
     /// # Ok(())
     /// # }
     /// ```
-    pub fn value(&self, variable: u32, image: &[u8]) -> Result<u64, Fault> {
+    pub fn value(&self, variable: u32, epoch: u32, image: &[u8]) -> Result<u64, Fault> {
         let mut value = 0;
         let (bytes, length) = (image.as_ptr(), image.len());
-        done(unsafe { ffi::zangjulf_get_value(&self.handle, variable, bytes, length, &mut value) }, 0)?;
+        done(unsafe { ffi::zangjulf_get_value(&self.handle, variable, epoch, bytes, length, &mut value) }, 0)?;
         Ok(value)
     }
 }
@@ -134,8 +136,8 @@ pub fn station_write(position: u16, station: u16, out: &mut [u8]) -> Result<&[u8
 
 /// The frame that switches off the first `count` FMMUs, 1 to 16, of the slave with a station address, as many as it has areas, at the
 /// front of `out`; 284 bytes are enough. Its working counter is 1 in what returns if the slave took it. Send it before
-/// [`Edit::Disconnect`](crate::Edit::Disconnect), while the slave still answers: a slave that stays on the wire would take the outputs of
-/// the next one in its task. `Misused` for another count, `Room`.
+/// [`Edit::Connect`](crate::Edit::Connect), and before [`Edit::Disconnect`](crate::Edit::Disconnect) while the slave still answers, and
+/// call [`Line::cleared`] after the edit. `Misused` for another count, `Room`.
 ///
 /// ```
 /// # fn main() -> Result<(), Box<dyn std::error::Error>> {
