@@ -117,12 +117,12 @@ abbrev pub SeatTold : LineState → Option OwnerEnd → Type 0
 SeatTold line None = Unit {0}
 SeatTold line (Some end) = SaysLast line end.images
 
--- and that of a number's, if it has one
+-- and the seat that looks with a number, if there is one
 abbrev pub LookerTold : LineState → Option LookerEnd → Type 0
 LookerTold line None = Unit {0}
 LookerTold line (Some end) = SaysLast line end.images
 
--- all tasks' seats were told so
+-- and the seats of all tasks, if they have one
 abbrev pub SeatsTold : LineState → List (Option OwnerEnd) → Type 0
 SeatsTold line [] = Unit {0}
 SeatsTold line (end ∷ ends) = SeatTold line end × SeatsTold line ends
@@ -132,6 +132,6 @@ abbrev pub LookersTold : LineState → List (Option LookerEnd) → Type 0
 LookersTold line [] = Unit {0}
 LookersTold line (end ∷ ends) = LookerTold line end × LookersTold line ends
 
--- each seat of a line was told so
+-- and each seat of a line
 abbrev pub EachTold : LineState → OwnerEnds → Type 0
 EachTold line ends = SeatsTold line ends.by_task × LookersTold line ends.lookers

@@ -121,7 +121,7 @@ line_number Open = 1
 line_number Closed = 2
 line_number Replaced = 3
 
--- an image of which so many were shown, as C gets it; those with data by their bits
+-- an image as C gets it, once so many were shown; the datagrams with data by their bits
 abbrev pub view_of : ℕ → Image → SeatView
 view_of showing image = record {
   showing = counted showing;
@@ -139,7 +139,7 @@ view_of showing image = record {
   reserved = 0;
 }
 
--- an image of which so many were shown is given: the view; the image's bytes before what the slice had after them; and the serials, as many as there is room for
+-- an image is given, once so many were shown: the view; the image's bytes before what the slice had after them; and the serials, as many as there is room for
 pub record GivesImage (showing : ℕ) (image : Image) (view : SeatView) (before after : List ℕ) (serials serials' : List ℕ) : Type 0 where
   pub view_is : view ≡ view_of showing image
   pub bytes : after ≡ image.bytes ++ drop (length image.bytes) before
@@ -171,6 +171,7 @@ abbrev pub is_open : LineState → Bool
 is_open Open = true
 is_open other = false
 
+-- the image's line is open, and the seat was not replaced
 abbrev pub is_current : Image → Bool
 is_current image = is_open image.head.line
 

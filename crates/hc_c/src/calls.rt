@@ -13,7 +13,7 @@ pub struct Entered {
 }
 
 impl Entered {
-    /// The call that closes a line ends with it, and the line's memory is given back. Each seat was told that the line is closed.
+    /// The call that closes a line ends with it, and the line's memory is given back. Each seat has an image that says so.
     pub fn end_with(self, own: Box<Embedded>)
         requires { EachTold Closed own.value.ends }
     {

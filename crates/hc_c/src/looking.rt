@@ -183,7 +183,7 @@ fn put_places(core: &Core, variables: &[u32], places: &mut [Place])
 }
 
 /// Where each of several variables is, in their order: `places` begins with as many places as there are variables, and a variable
-/// without a place in the present line has zeros, of which `bits` is 0 of no other. Returns `DONE`. It allocates nothing. It fails
+/// without a place in the present line has zeros; `bits` is 0 of no other one. Returns `DONE`. It allocates nothing. It fails
 /// with one of these, and `places` is as it was:
 ///
 /// - `BUSY`, `CLOSED` or `MISUSED`.

@@ -13,7 +13,7 @@ use hc_core::keeping::Core;
 use hc_places::table::Place as LinePlace;
 use hc_records::records::Dir;
 
-/// Whether an epoch is below that of the last edit that changed a variable's task, or above the present one.
+/// Whether an epoch is below the epoch of the last edit that changed a variable's task, or above the present one.
 fn is_stale(core: &Core, place: LinePlace, epoch: u32) -> bool
     ensures { result ≡ is_stale_epoch core.now.history place.task epoch }
 {

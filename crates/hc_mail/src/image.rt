@@ -13,7 +13,7 @@ pub enum LineState {
     Open,
     /// The line was closed.
     Closed,
-    /// Another seat stands in place of this one.
+    /// Another seat took the place of this one.
     Replaced,
 }
 

@@ -107,8 +107,8 @@ fn add_outputs(
     add_outputs(core, task, number + 1, rest, left, images);
 }
 
-/// What an image of a task says beside its data. The task's last sending begins with the serial `first`, and the number `taken` is
-/// that of the post that was taken last.
+/// What an image of a task says beside its data. The task's last sending begins with the serial `first`, and the post that was
+/// taken last has the number `taken`.
 pub fn head_of(
     core: &Core,
     task: u8,
