@@ -8,6 +8,7 @@ mod Images
 mod InFrame
 mod Masks
 mod Offset
+mod Places
 mod Refusals
 mod Returned
 mod Rooms

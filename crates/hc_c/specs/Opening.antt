@@ -21,7 +21,7 @@ no_ends = record { by_task = replicate 8 None; used = 0; none_after = λ _. fals
 
 -- a core where nothing has happened, no task sent, nothing counted, no seat and no call that runs
 abbrev pub at_opening : List Group → Embedded
-at_opening groups = record { core = core_without_changes (just_opened groups); sent_from = replicate TASKS 0; counts = opening_counts; ends = no_ends; spare = tt; calls = record { runs = tt } }
+at_opening groups = record { core = core_without_changes (just_opened groups); sent_from = replicate TASKS 0; counts = opening_counts; ends = no_ends; spare = tt; calls = record { run = tt } }
 
 -- it, if the text is a project
 abbrev pub opened_by : Result (List Group) ProjectFault → Option Embedded

@@ -2,7 +2,7 @@
 //! begins with a token that is not `Drop`, so that each call which begins also ends. Contracts see nothing of the flag, which
 //! another thread may change at any time.
 use crate::embedded::Embedded;
-use std::sync::atomic::{AtomicBool, Ordering};
+use std::sync::atomic::{AtomicU64, Ordering};
 
 /// A call that runs. It is no value that may be let go: `Calls::end` takes it, or `Entered::end_with`.
 pub struct Entered {
@@ -17,23 +17,23 @@ impl Entered {
     }
 }
 
-/// Whether a call with the line's handle runs.
+/// How many calls with the line's handle run: none or one.
 #[derive(Drop)]
 pub struct Calls {
-    runs: AtomicBool,
+    run: AtomicU64,
 }
 
 impl Calls {
     /// No call runs.
     pub fn none() -> Calls {
         Calls {
-            runs: AtomicBool::new(false),
+            run: AtomicU64::new(0),
         }
     }
 
     /// Begins a call, unless one runs.
     pub fn begin(&self) -> Option<Entered> {
-        if self.runs.swap(true, Ordering::SeqCst) {
+        if self.run.swap(1, Ordering::SeqCst) != 0 {
             return None;
         }
         Some(Entered { only: () })
@@ -42,6 +42,6 @@ impl Calls {
     /// Ends a call that began.
     pub fn end(&self, entered: Entered) {
         let Entered { only: _ } = entered;
-        self.runs.store(false, Ordering::SeqCst);
+        self.run.store(0, Ordering::SeqCst);
     }
 }
