@@ -1,6 +1,7 @@
 -- What C gets for an arrival, by what the core's call and the reader say.
 use Rattle.std.proofs.Common.{◌≡◌, ◌≢◌, ℕ, ◌+◌, ◌*◌, ◌<◌, ◌≤◌, List, [], ◌∷◌, length, refl, sym, ap, ◌∙◌, subst, arith, inl, Option, Some, None}
-use Rattle.std.specs.Prelude.{All, Ok}
+use Rattle.std.specs.Prelude.{All, Ok, Result}
+use Rattle.core.specs.declared.alloc.AllocError.{AllocError}
 use Rattle.std.proofs.lemmas.List.Elements.{All-head, All-tail}
 use Rattle.hc_records.specs.Edits.{over_limit_task}
 use Rattle.hc_records.specs.Line.{State, groups_of, line}
@@ -201,3 +202,6 @@ outcomes-few old bytes arrived.Written list none is all empty =
 outcomes-few old bytes arrived.WriteDone list none is all empty = none_few list (empty (λ e. cc) (λ e. cc))
 outcomes-few old bytes arrived.WriteMissed list none is all empty = none_few list (empty (λ e. cc) (λ e. cc))
 outcomes-few old bytes arrived.Stale list none is all empty = none_few list (empty (λ e. cc) (λ e. cc))
+
+pub same_ok : {one other : Arrived} → ◌≡◌ {A = Result Arrived AllocError} (Ok one) (Ok other) → one ≡ other
+same_ok e = cc
