@@ -92,7 +92,7 @@ framed_few : (members : List Member) (serial : ℕ) (datagrams : List Named) →
 framed_few members serial [] = omega arith
 framed_few members serial (datagram ∷ datagrams) = after_few members (frame_of_one serial datagram (line_data_length members datagram)) datagrams
 
--- of which tasks have few
+-- the tasks of a line have few datagrams
 
 low_few : (state : State) (task : ℕ) → lowest_fault (groups_of state.groups) ≡ None → over_limit_task (line state) ≡ None → (task < TASKS) ⊎ (TASKS ≤ task) → (0 < datagram_count (task_places task (line state))) ⊎ (datagram_count (task_places task (line state)) ≤ 0)
     → datagram_count (task_places task (line state)) ≤ MOST_DATAGRAMS

@@ -268,7 +268,7 @@ blocks_by history arrival (Some sending) is e =
     ∙ blocks_answered sending.since made.blocks arrival.parts 16 26 fit refl
     ∙ sym (ap (λ (heads : List Head). outcomes_from 26 (map (judge sending.since) (zip heads arrival.parts))) made.heads)
 
--- of an answer to register writes each outcome is that of a block, in order
+-- an answer to register writes has an outcome of each block, in order
 pub blocks-reported : (history : History) (arrival : frame.Arrival) (given : Answer) → judged_answer (judged_by history arrival) ≡ given → is_of_blocks given ≡ true
     → answered_blocks (said_of_blocks given) (placed_from 16 arrival.parts) ≡ outcomes_from 26 (judged_by history arrival)
 blocks-reported history arrival given is of_blocks =

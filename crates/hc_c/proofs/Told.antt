@@ -1,4 +1,4 @@
--- Each seat that was shown an image which says what became of the line was told so.
+-- Each seat that was shown an image which says what became of the line shows it last.
 use Rattle.std.proofs.Common.{◌≡◌, ◌∙◌, ℕ, ◌+◌, List, [], ◌∷◌, Option, None, Some, ap}
 use Rattle.std.specs.Prelude.{slice_index_or}
 use Rattle.hc_events.specs.Entries.{History}

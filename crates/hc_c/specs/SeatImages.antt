@@ -112,7 +112,7 @@ ShowsEnds history firsts line old new = ShowsAll history firsts line 0 old.by_ta
 abbrev pub SaysLast : LineState → SenderEnd Image → Type 0
 SaysLast line images = (newest image_kind image_room (seen images.place)).head.line ≡ line
 
--- so does that of a task's seat, if it has one
+-- and so does a task's seat, if there is one
 abbrev pub SeatTold : LineState → Option OwnerEnd → Type 0
 SeatTold line None = Unit {0}
 SeatTold line (Some end) = SaysLast line end.images
