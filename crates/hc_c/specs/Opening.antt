@@ -17,7 +17,7 @@ use Rattle.hc_c.specs.declared.numbers.TheConstants.{OVER_LIMIT, DONE, PROJECT}
 
 -- a core where nothing has happened, no task sent, nothing counted, no seat, so many numbers for seats that only look, and no call that runs
 abbrev pub at_opening : ℕ → List Group → Embedded
-at_opening lookers groups = record { core = core_without_changes (just_opened groups); sent_from = replicate TASKS 0; counts = opening_counts; ends = no_seats lookers; spare = tt; calls = record { runs = tt } }
+at_opening lookers groups = record { core = core_without_changes (just_opened groups); sent_from = replicate TASKS 0; counts = opening_counts; ends = no_seats lookers; spare = tt; calls = record { run = tt } }
 
 -- it, if the text is a project
 abbrev pub opened_by : ℕ → Result (List Group) ProjectFault → Option Embedded

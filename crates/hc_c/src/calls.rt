@@ -5,7 +5,7 @@ ghost use Rattle.hc_mail.specs.declared.image.LineState.TheVariants.{Closed};
 ghost use Rattle.hc_c.specs.SeatImages.{EachTold};
 
 use crate::embedded::Embedded;
-use std::sync::atomic::{AtomicBool, Ordering};
+use std::sync::atomic::{AtomicU64, Ordering};
 
 /// A call that runs. It is no value that may be let go: `Calls::end` takes it, or `Entered::end_with`.
 pub struct Entered {
@@ -22,23 +22,23 @@ impl Entered {
     }
 }
 
-/// Whether a call with the line's handle runs.
+/// How many calls with the line's handle run: none or one.
 #[derive(Drop)]
 pub struct Calls {
-    runs: AtomicBool,
+    run: AtomicU64,
 }
 
 impl Calls {
     /// No call runs.
     pub fn none() -> Calls {
         Calls {
-            runs: AtomicBool::new(false),
+            run: AtomicU64::new(0),
         }
     }
 
     /// Begins a call, unless one runs.
     pub fn begin(&self) -> Option<Entered> {
-        if self.runs.swap(true, Ordering::SeqCst) {
+        if self.run.swap(1, Ordering::SeqCst) != 0 {
             return None;
         }
         Some(Entered { only: () })
@@ -47,6 +47,6 @@ impl Calls {
     /// Ends a call that began.
     pub fn end(&self, entered: Entered) {
         let Entered { only: _ } = entered;
-        self.runs.store(false, Ordering::SeqCst);
+        self.run.store(0, Ordering::SeqCst);
     }
 }
