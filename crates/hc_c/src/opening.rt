@@ -5,7 +5,9 @@ ghost use Rattle.hc_records.specs.Line.{line, opened};
 ghost use Rattle.hc_project.specs.Text.{project_in};
 ghost use Rattle.hc_c.specs.Handles.{HoldsAsBefore, no_line_number};
 ghost use Rattle.hc_c.specs.Opening.{at_opening, may_open, opened_by, opening_number, over_limit_in};
+ghost use Rattle.hc_c.specs.SeatImages.{EachTold};
 ghost use Rattle.hc_c.specs.declared.numbers.TheConstants.{BUSY};
+ghost use Rattle.hc_mail.specs.declared.image.LineState.TheVariants.{Closed};
 
 use crate::calls::Calls;
 use crate::counting::Counts;
@@ -131,6 +133,27 @@ pub extern "C" fn zangjulf_open(
     }
 }
 
+/// Shows each seat of a line a last image, which says that the line is closed.
+fn show_closed(own: &mut Embedded)
+    ensures { EachTold Closed own.new.ends }
+{
+    show_ends(
+        &own.core,
+        &own.sent_from,
+        LineState::Closed,
+        &mut own.ends,
+    );
+}
+
+/// Shows each seat of the line that a handle holds a last image. The handle must hold a line.
+fn tell_closed(handle: &mut Handle)
+    requires { IsSome handle.old.holding.value }
+    ensures told { IfSome handle.new.holding.value (λ line. EachTold Closed line.ends) }
+    ensures open { IsSome handle.new.holding.value }
+{
+    show_closed(handle.holding.line_mut());
+}
+
 /// Closes a line and gives its memory back. Each seat gets a last image, which says that the line is closed. Returns `DONE`, and the handle may be opened anew. It fails with one of these, and
 /// then the handle is as it was:
 ///
@@ -147,8 +170,7 @@ pub extern "C" fn zangjulf_close(alloc: Global, handle: &mut Handle) -> u8
     let Some(entered) = handle.enter() else {
         return handle.refusal();
     };
-    let line = handle.holding.line_mut();
-    show_ends(&line.core, &line.sent_from, LineState::Closed, &mut line.ends);
+    tell_closed(handle);
     let own = handle.take(alloc);
     entered.end_with(own);
     DONE

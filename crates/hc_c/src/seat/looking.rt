@@ -13,6 +13,7 @@ use crate::seat::handle::SeatHandle;
 use crate::seat::lookers::LookerEnd;
 use crate::seat::opening::open_images;
 use crate::seat::showing::head_of;
+use crate::states::first_serial;
 use hc_core::keeping::Core;
 use hc_events::faults::CoreFault;
 use hc_mail::image::LineState;
@@ -40,7 +41,8 @@ fn make_looker(
         images: receiver,
         posts: None,
     };
-    Ok((owner, Box::new(alloc, end)?))
+    let own = Box::new(alloc, end)?;
+    Ok((owner, own))
 }
 
 /// Opens a seat that only looks in a handle: `DONE`, or why it is refused.
@@ -63,14 +65,13 @@ fn open_looker(
     if task >= TASKS {
         return CoreFault::NoSuchTask.number();
     }
-    let first = own.sent_from[usize::from(task)];
+    let first = first_serial(&own.sent_from, task);
     let Ok((owner, end)) = make_looker(alloc, &own.core, task, first) else {
         return MEMORY;
     };
     drop(
         own.ends
-            .lookers
-            .place(&own.core, &own.sent_from, number, owner),
+            .place_looker(&own.core, &own.sent_from, number, owner),
     );
     *seat = SeatHandle::of(end);
     DONE

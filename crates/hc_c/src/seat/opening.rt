@@ -15,6 +15,7 @@ use crate::seat::ends::{OwnerEnd, TaskEnd, TaskPosts};
 use crate::seat::handle::SeatHandle;
 use crate::seat::limits::LARGEST_IMAGE;
 use crate::seat::showing::{head_of, send_image};
+use crate::states::first_serial;
 use hc_core::keeping::Core;
 use hc_events::faults::CoreFault;
 use hc_mail::content::Content;
@@ -77,7 +78,8 @@ fn make_ends(
         images: receiver,
         posts: Some(posts),
     };
-    Ok((owner, Box::new(alloc, end)?))
+    let own = Box::new(alloc, end)?;
+    Ok((owner, own))
 }
 
 /// Opens a task's seat in a handle: `DONE`, or why it is refused.
@@ -93,7 +95,7 @@ fn open_seat(alloc: Global, own: &mut Embedded, task: u8, seat: &mut SeatHandle)
     if task >= TASKS {
         return CoreFault::NoSuchTask.number();
     }
-    let first = own.sent_from[usize::from(task)];
+    let first = first_serial(&own.sent_from, task);
     let Ok((owner, end)) = make_ends(alloc, &own.core, task, first) else {
         return MEMORY;
     };

@@ -46,6 +46,23 @@ impl OwnerEnds {
         }
         was
     }
+
+    /// Gives a number this end of a seat that only looks in place of what it had, and returns that, whose seat gets a last image: it
+    /// is replaced.
+    pub fn place_looker(
+        &mut self,
+        core: &Core,
+        sent_from: &[u64; 8],
+        number: usize,
+        owner: LookerEnd,
+    ) -> Option<LookerEnd>
+        requires { number < length self.old.lookers }
+        ensures placed { self.new.lookers ≡ set self.old.lookers number (Some owner) }
+        ensures seats { self.new.by_task ≡ self.old.by_task }
+        ensures told { ShowsLookers core.now.history sent_from.now Replaced (slice_index_or self.old.lookers number None ∷ []) (result ∷ []) }
+    {
+        self.lookers.place(core, sent_from, number, owner)
+    }
 }
 
 impl Lookers {

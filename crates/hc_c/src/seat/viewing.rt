@@ -9,7 +9,7 @@ ghost use Rattle.hc_c.specs.SeatRoom.{image_room};
 ghost use Rattle.hc_c.specs.Seats.{GivesImage, GivesNewest, LooksOn, SeatAsBefore, at_hand, fits_image, line_number, mask_from, outputs_beside, outputs_begun, serials_answered, view_of};
 
 use crate::numbers::{DONE, ROOM};
-use crate::seat::ends::TaskPosts;
+use crate::seat::ends::{TaskEnd, TaskPosts};
 use crate::seat::handle::SeatHandle;
 use crate::states::task_state;
 use crate::widths::{in_16_bits, in_32_bits};
@@ -185,6 +185,15 @@ fn outputs_beside<'a>(image: &'a TaskImage, posts: &'a Option<TaskPosts>) -> &'a
     }
 }
 
+/// Gives the outputs to begin with: `DONE`, or `ROOM` if `out` is too short.
+fn give_begun(end: &TaskEnd, out: &mut [u8]) -> u8
+    ensures number { result ≡ fit_number (length (outputs_begun end.now)) (length out.old) }
+    ensures outputs { result ≡ DONE → out.new ≡ outputs_begun end.now ++ drop (length (outputs_begun end.now)) out.old }
+    ensures untouched { result ≢ DONE → out.new ≡ out.old }
+{
+    give_bytes(outputs_beside(end.images.content(), &end.posts), out)
+}
+
 /// Takes the newest image that was shown, or keeps the viewed one if none is newer: never an older one. It waits for nobody and
 /// allocates nothing. Returns `DONE`: the image's bytes are at the front of `out`, each datagram's at its offset, zeros where it has
 /// no data; `serials` has of each datagram, in their order, the serial of the sending that its data answer, 0 where it has none, as
@@ -240,5 +249,5 @@ pub extern "C" fn zangjulf_seat_outputs(seat: &mut SeatHandle, out: &mut [u8]) -
         return seat.refusal();
     }
     let end = seat.holding.end_mut();
-    give_bytes(outputs_beside(end.images.content(), &end.posts), out)
+    give_begun(end, out)
 }
