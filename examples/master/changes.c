@@ -1,5 +1,6 @@
 /* Tools that come, go and fail while two axes keep their cycles: an owner and two task threads on the wire of `wire.c`, 1,000 cycles a
- * second unless another number is given. The axes are in task 0, the machine's inputs and outputs in task 1, and the tools in task 2, which alone waits for them.
+ * second unless another number is given. The axes are in task 0, the machine's inputs and outputs in task 1, and the tools in task 2, which
+ * alone waits for them.
  *
  *   a  a tool comes and goes 50 times; it stays on the wire with its FMMUs switched off
  *   b  the same, with 100 further input areas in the tool's task, whose register blocks each change owes too
@@ -10,8 +11,8 @@
  *
  * Of each a line is printed: the axes' cycles without an exchange, the axes' views without data, those older than one cycle, and the
  * axes' posts that were refused; and how often the outputs of the tool that stays plugged changed. All must be 0. A cycle counts apart,
- * as the machine's fault, if the owner woke late and its frames were on the simulated wire, beside the slaves' work, for more than 0.5 ms
- * together; if more than 5 % are, the run fails. If no namespaces can be made it says so, and ends with status 77.
+ * as the machine's fault, if the owner woke late and its frames were on the simulated wire for more than 0.5 ms together; if more
+ * than 5 % are, the run fails. If no namespaces can be made it says so, and ends with status 77.
  *
  *     changes PROJECT [LETTERS [CYCLES_A_SECOND]]
  *
@@ -90,7 +91,7 @@ static void check(bool fact, const char *what) {
 
 /* --- the tasks' threads ---------------------------------------------------------------------------------------------------- */
 
-/* The axes' views are counted once all is over: a cycle that counts apart may be told late. A view is of the present cycle's image, or of
+/* The axes' views are counted once all is over: only then all cycles that count apart are known. A view is of the present cycle's image, or of
  * the one before. The owner shows one a cycle, and the first one is there as the seat is opened. */
 static void count_views(unsigned long cycles) {
     for (unsigned long cycle = 1; cycle < cycles; cycle++) {

@@ -22,18 +22,13 @@
 #define ETHERCAT 0x88a4
 #define SLAVES_PRIORITY 40
 
-/* What both processes see of a slave, and of all: how long they worked since frames were sent last. */
+/* What both processes see of a slave. */
 struct seen {
     atomic_bool is_there, has_contact;
     atomic_uchar output;
 };
-struct shared {
-    struct seen slaves[MOST_SLAVES];
-    atomic_long worked;
-};
 
-static struct shared *shared;
-static struct seen *seen; /* its slaves */
+static struct seen *seen;
 static int device;
 static long sent_at, back_at;
 static FILE *capture;
@@ -81,14 +76,12 @@ static void serve_slaves(const struct wire_slave *of, size_t count) {
     }
     for (;;) {
         size_t size = receive(own, frame, -1);
-        long began = wire_now();
         for (size_t i = 0; i < count; i++) {
             if (!atomic_load(&seen[i].is_there) || !atomic_load(&seen[i].has_contact)) continue;
             if (zangjulf_slave_process(memory[i], sizeof memory[i], frame, size)) exit(1);
             memcpy(&memory[i][of[i].inputs], &memory[i][of[i].outputs], of[i].bytes);
             atomic_store(&seen[i].output, memory[i][of[i].outputs]);
         }
-        atomic_fetch_add(&shared->worked, wire_now() - began);
         if (send(own, frame, size, 0) < 0) exit(1);
     }
 }
@@ -121,9 +114,8 @@ bool wire_open(const struct wire_slave *of, size_t count, const char *capture_na
     int ready[2], begin[2];
     char command[160], byte = 0;
     uint8_t frame[ZANGJULF_FRAME];
-    shared = mmap(NULL, sizeof *shared, PROT_READ | PROT_WRITE, MAP_SHARED | MAP_ANONYMOUS, -1, 0);
-    if (shared == MAP_FAILED || count > MOST_SLAVES || pipe(ready) || pipe(begin)) wire_fail("there is no memory");
-    seen = shared->slaves;
+    seen = mmap(NULL, MOST_SLAVES * sizeof *seen, PROT_READ | PROT_WRITE, MAP_SHARED | MAP_ANONYMOUS, -1, 0);
+    if (seen == MAP_FAILED || count > MOST_SLAVES || pipe(ready) || pipe(begin)) wire_fail("there is no memory");
     for (size_t i = 0; i < count; i++) wire_plug(i, true, true);
     if (unshare(CLONE_NEWNET)) return false;
     slaves = fork();
@@ -167,7 +159,6 @@ void wire_send(const uint8_t *frames, const struct zangjulf_frame *table, size_t
         messages[i].msg_hdr.msg_iov = &pieces[i], messages[i].msg_hdr.msg_iovlen = 1;
         record(frames + table[i].offset, table[i].size);
     }
-    atomic_store(&shared->worked, 0);
     sent_at = wire_now();
     for (size_t sent = 0; sent < count;) {
         int more = sendmmsg(device, messages + sent, (unsigned)(count - sent), 0);
@@ -182,7 +173,7 @@ size_t wire_receive(uint8_t *frame, long until) {
     return size;
 }
 
-long wire_took(bool is_back) { return (is_back ? back_at : wire_now()) - sent_at - atomic_load(&shared->worked); }
+long wire_took(bool is_back) { return (is_back ? back_at : wire_now()) - sent_at; }
 
 size_t wire_pass(const uint8_t *frame, size_t size, uint8_t *returned) {
     const struct zangjulf_frame all = {0, (uint32_t)size};
