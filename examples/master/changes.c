@@ -1,5 +1,6 @@
 /* Tools that come, go and fail while two axes keep their cycles: an owner and two task threads on the wire of `wire.c`, 1,000 cycles a
- * second unless another number is given. The axes are in task 0, the machine's inputs and outputs in task 1, and the tools in task 2, which alone waits for them.
+ * second unless another number is given. The axes are in task 0, the machine's inputs and outputs in task 1, and the tools in task 2, which
+ * alone waits for them.
  *
  *   a  a tool comes and goes 50 times; it stays on the wire with its FMMUs switched off
  *   b  the same, with 100 further input areas in the tool's task, whose register blocks each change owes too
@@ -10,8 +11,8 @@
  *
  * Of each a line is printed: the axes' cycles without an exchange, the axes' views without data, those older than one cycle, and the
  * axes' posts that were refused; and how often the outputs of the tool that stays plugged changed. All must be 0. A cycle counts apart,
- * as the machine's fault, if the owner woke more than 0.5 ms late; if more than 5 % are, the run fails. If no namespaces can be made it
- * says so, and ends with status 77.
+ * as the machine's fault, if the owner woke late and its frames were on the simulated wire for more than 0.5 ms together; if more
+ * than 5 % are, the run fails. If no namespaces can be made it says so, and ends with status 77.
  *
  *     changes PROJECT [LETTERS [CYCLES_A_SECOND]]
  *
@@ -35,6 +36,7 @@ enum { GRIPPER_SLAVE = 4, OTHER_SLAVE, FIRST_SENSOR };
 #define SLAVES (FIRST_SENSOR + SENSORS)
 #define LATE (SECOND / 2000)
 #define MOST_WRONG 3 /* so many wrong counters in a row, and the tool is given up */
+#define MOST_TRIES 20
 
 /* A tool: its alias, its slave, and what is put out to it. */
 struct tool {
@@ -89,7 +91,7 @@ static void check(bool fact, const char *what) {
 
 /* --- the tasks' threads ---------------------------------------------------------------------------------------------------- */
 
-/* The axes' views are counted once all is over: a cycle that counts apart may be told late. A view is of the present cycle's image, or of
+/* The axes' views are counted once all is over: only then all cycles that count apart are known. A view is of the present cycle's image, or of
  * the one before. The owner shows one a cycle, and the first one is there as the seat is opened. */
 static void count_views(unsigned long cycles) {
     for (unsigned long cycle = 1; cycle < cycles; cycle++) {
@@ -139,7 +141,7 @@ static bool hand_in(const uint8_t *frame, size_t size) {
 static bool is_taken(const uint8_t *frame, size_t size, size_t counter) {
     const struct zangjulf_frame all = {0, (uint32_t)size};
     uint8_t returned[ZANGJULF_FRAME];
-    long until = wire_now() + turn / 3;
+    long until = start + (long)counts.cycles * turn - turn / 20; /* shortly before the next cycle */
     wire_send(frame, &all, 1);
     for (size_t came; (came = wire_receive(returned, until)); hand_in(returned, came))
         if (came == size && !memcmp(returned + 7, frame + 7, 17)) return returned[counter] == 1; /* its serial and its first datagram */
@@ -153,28 +155,47 @@ static bool is_switched_off(const struct tool *tool) {
     return is_taken(frame, size, 26 + 16u * tool->areas);
 }
 
-/* Slaves come with their station address here: on a wire of one's own `zangjulf_station_write` gives it. A tool that doesn't take zeros to
- * its FMMUs is not connected. */
-static void comes(const struct tool *tool) {
+/* What is to be done with a tool once it takes zeros to its FMMUs, and how often it was tried. */
+enum wish { NOTHING, COMES, GOES, IS_CLEARED };
+static struct {
+    enum wish wish;
+    const struct tool *tool;
+    int tries;
+} wanted;
+static bool loses_contact; /* of a tool, as soon as it is in the line */
+
+/* The tool in the line leaves it: what follows says where it is. */
+static void leave_line(void) {
     struct zangjulf_cost cost;
-    wire_plug(tool->slave, true, true);
-    check(is_switched_off(tool), "a tool doesn't answer");
+    must(zangjulf_disconnect(&line, present->alias, false, &cost), "a tool goes");
+    present = NULL;
+    wrong = 0;
+}
+
+static void join_line(const struct tool *tool) {
+    struct zangjulf_cost cost;
     must(zangjulf_connect(&line, tool->alias, false, &cost), "a tool comes");
-    must(zangjulf_cleared(&line, tool->station), "a tool is cleared");
     check(cost.waits == 1 << TOOL, "a tool's coming makes another task wait");
     present = tool;
 }
 
-/* A tool leaves the line: it is switched off, or off the wire, or stays plugged as it is. */
-enum way { SWITCHED_OFF, UNPLUGGED, AS_IT_IS };
-static void goes(enum way way) {
-    struct zangjulf_cost cost;
-    if (way == SWITCHED_OFF) check(is_switched_off(present), "a tool isn't switched off");
-    must(zangjulf_disconnect(&line, present->alias, false, &cost), "a tool goes");
-    if (way == SWITCHED_OFF) must(zangjulf_cleared(&line, present->station), "a tool is cleared");
-    if (way == UNPLUGGED) must(zangjulf_unplugged(&line, present->station), "a tool is unplugged");
-    present = NULL;
-    wrong = 0;
+/* Slaves come with their station address here: on a wire of one's own `zangjulf_station_write` gives it. A tool that doesn't take zeros to
+ * its FMMUs is not connected, and tried again in the next cycle. */
+static void carry_out(void) {
+    const struct tool *tool = wanted.tool;
+    if (wanted.wish == NOTHING) return;
+    check(wanted.tries++ < MOST_TRIES, "a tool doesn't answer");
+    if (!is_switched_off(tool)) return;
+    if (wanted.wish == COMES) join_line(tool);
+    if (wanted.wish == GOES) leave_line();
+    must(zangjulf_cleared(&line, tool->station), "a tool is cleared");
+    if (loses_contact) wire_plug(tool->slave, true, false);
+    wanted.wish = NOTHING;
+}
+
+static void want(enum wish wish, const struct tool *tool) {
+    if (wish == COMES) wire_plug(tool->slave, true, true);
+    wanted.wish = wish, wanted.tool = tool, wanted.tries = 0;
 }
 
 /* The outputs of the tool in the line. */
@@ -214,8 +235,7 @@ static void cycle(unsigned long number) {
     struct zangjulf_taken taken;
     long wake = start + (long)number * turn;
     wire_wait(wake);
-    is_late[number] = wire_now() - wake > LATE;
-    counts.apart += is_late[number];
+    long late = wire_now() - wake;
     must(zangjulf_take_posts(&line, &taken), "posts are taken");
     counts.refused += taken.refused >> AXES & 1;
     if (present) post_tool();
@@ -223,6 +243,8 @@ static void cycle(unsigned long number) {
     wire_send(frames, table, count);
     long until = wake + turn * 85 / 100;
     for (size_t came; count && (came = wire_receive(returned, until));) count -= hand_in(returned, came);
+    is_late[number] = late + wire_took(!count) > LATE;
+    counts.apart += is_late[number];
     must(zangjulf_show(&line), "images are shown");
     counts.unexchanged += !is_exchanged && !is_late[number];
     counts.cycles++;
@@ -233,35 +255,30 @@ static void cycle(unsigned long number) {
 /* a, b: 20 cycles in the line, 20 outside it. */
 static void comes_and_goes(unsigned long number) {
     static unsigned long before;
-    if (number % 40 == 10) before = counts.exchanges_of_tool, comes(&GRIPPER);
-    if (number % 40 == 30) check(counts.exchanges_of_tool > before, "a tool isn't exchanged while it is there"), goes(SWITCHED_OFF);
+    if (number % 40 == 10) before = counts.exchanges_of_tool, want(COMES, &GRIPPER);
+    if (number % 40 == 30) check(counts.exchanges_of_tool > before, "a tool isn't exchanged while it is there"), want(GOES, &GRIPPER);
 }
 
 static void is_silent(unsigned long number) {
-    if (number == 100) comes(&GRIPPER), wire_plug(GRIPPER_SLAVE, true, false);
-    if (number == 2100) check(counts.exchanges_of_tool == 0, "a silent tool is exchanged"), wire_plug(GRIPPER_SLAVE, true, true);
-    if (number == 2200) check(counts.exchanges_of_tool > 50, "a tool isn't exchanged once it answers");
+    if (number == 100) loses_contact = true, want(COMES, &GRIPPER);
+    if (number == 2120) check(present && !counts.exchanges_of_tool, "a silent tool is exchanged"), wire_plug(GRIPPER_SLAVE, true, true);
+    if (number == 2290) check(counts.exchanges_of_tool > 50, "a tool isn't exchanged once it answers");
 }
 
 static void stays_plugged(unsigned long number) {
     static unsigned long before;
-    if (number == 100) comes(&GRIPPER);
-    if (number == 200) check(wire_output(GRIPPER_SLAVE) == GRIPPER.output, "a tool doesn't get its outputs"), goes(AS_IT_IS);
-    if (number == 210) before = counts.exchanges_of_tool, comes(&OTHER);
+    if (number == 100) want(COMES, &GRIPPER);
+    if (number == 200) check(wire_output(GRIPPER_SLAVE) == GRIPPER.output, "a tool doesn't get its outputs"), leave_line();
+    if (number == 210) before = counts.exchanges_of_tool, want(COMES, &OTHER);
     if (number >= 200) counts.changed += wire_output(GRIPPER_SLAVE) != GRIPPER.output;
-    if (number < 700) return;
-    if (number == 700) {
-        check(counts.exchanges_of_tool == before, "a task is sent while a plugged tool may take its outputs");
-        check(is_switched_off(&GRIPPER), "the plugged tool isn't switched off");
-        must(zangjulf_cleared(&line, GRIPPER.station), "the plugged tool is cleared");
-    }
+    if (number == 700) check(counts.exchanges_of_tool == before, "a task is sent while a plugged tool may take its outputs"), want(IS_CLEARED, &GRIPPER);
     if (number == 800) check(wire_output(OTHER_SLAVE) == OTHER.output, "the other tool doesn't get its outputs");
 }
 
 static void is_pulled(unsigned long number) {
-    if (number % 200 == 50) comes(&GRIPPER);
+    if (number % 200 == 50) want(COMES, &GRIPPER);
     if (number % 200 == 150) check(wire_output(GRIPPER_SLAVE) == GRIPPER.output, "a tool doesn't get its outputs"), wire_plug(GRIPPER_SLAVE, false, false);
-    if (wrong >= MOST_WRONG) goes(UNPLUGGED);
+    if (present && wrong >= MOST_WRONG) leave_line(), must(zangjulf_unplugged(&line, GRIPPER.station), "a tool is unplugged");
     if (number % 200 == 199) check(!present, "a tool that was pulled is in the line");
 }
 
@@ -344,10 +361,10 @@ static int run(const struct change *change, const char *project) {
     write_all();
     mlockall(MCL_CURRENT | MCL_FUTURE);
     wire_priority(30);
-    start = wire_now() + turn;
-    cycle(0);
+    start = wire_now() + SECOND / 20;
     for (int i = 0; i < 2; i++) check(!pthread_create(&threads[i], NULL, work, &workers[i]), "there is no thread");
-    for (unsigned long number = 1; number < change->cycles; number++) cycle(number), change->step(number);
+    cycle(0);
+    for (unsigned long number = 1; number < change->cycles; number++) cycle(number), change->step(number), carry_out();
     atomic_store(&is_over, true);
     for (int i = 0; i < 2; i++) pthread_join(threads[i], NULL);
     count_views(change->cycles);

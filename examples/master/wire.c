@@ -30,6 +30,7 @@ struct seen {
 
 static struct seen *seen;
 static int device;
+static long sent_at, back_at;
 static FILE *capture;
 static pid_t slaves;
 
@@ -158,6 +159,7 @@ void wire_send(const uint8_t *frames, const struct zangjulf_frame *table, size_t
         messages[i].msg_hdr.msg_iov = &pieces[i], messages[i].msg_hdr.msg_iovlen = 1;
         record(frames + table[i].offset, table[i].size);
     }
+    sent_at = wire_now();
     for (size_t sent = 0; sent < count;) {
         int more = sendmmsg(device, messages + sent, (unsigned)(count - sent), 0);
         if (more < 0) wire_fail("a frame can't be sent");
@@ -167,9 +169,11 @@ void wire_send(const uint8_t *frames, const struct zangjulf_frame *table, size_t
 
 size_t wire_receive(uint8_t *frame, long until) {
     size_t size = receive(device, frame, until);
-    if (size) record(frame, size);
+    if (size) back_at = wire_now(), record(frame, size);
     return size;
 }
+
+long wire_took(bool is_back) { return (is_back ? back_at : wire_now()) - sent_at; }
 
 size_t wire_pass(const uint8_t *frame, size_t size, uint8_t *returned) {
     const struct zangjulf_frame all = {0, (uint32_t)size};

@@ -36,6 +36,9 @@ void wire_send(const uint8_t *frames, const struct zangjulf_frame *table, size_t
 /* The next EtherCAT frame that comes in until a time; its size, or 0 if none does. `frame` has 1,514 bytes. */
 size_t wire_receive(uint8_t *frame, long until);
 
+/* How long what was sent last was on the wire: until the last frame came in, or until now if it is not back. */
+long wire_took(bool is_back);
+
 /* Sends a frame and waits for what returns; its size. `returned` has 1,514 bytes. */
 size_t wire_pass(const uint8_t *frame, size_t size, uint8_t *returned);
 
