@@ -74,7 +74,7 @@ pub record OpensLineSeat (task : ℕ) (old new : Embedded) (end : TaskEnd) : Typ
   pub ends : AreEnds (embedded_history old) task (task_sent_from old task) owner end
 
 -- a number of a line has a new seat that only looks, in place of what it had; all else of the line is as it was
-pub record OpensLineLooker (number task : ℕ) (old new : Embedded) (end : TaskEnd) : Type 0 where
+pub record AddsLooker (number task : ℕ) (old new : Embedded) (end : TaskEnd) : Type 0 where
   pub owner : LookerEnd
   pub placed : new.ends.lookers ≡ set old.ends.lookers number (Some owner)
   pub seats : new.ends.by_task ≡ old.ends.by_task

@@ -2,7 +2,7 @@
 ghost use Rattle.std.specs.Prelude.{◌≡◌, ◌≢◌, ◌<◌, IfOk, IfSome, IsSome, None, length, slice_index_or};
 ghost use Rattle.hc_records.specs.declared.limits.TheConstants.{TASKS};
 ghost use Rattle.hc_c.specs.Handles.{HoldsAsBefore, IfServed, no_line_number};
-ghost use Rattle.hc_c.specs.Seats.{AnswersLooking, AreLookerEnds, OpensLineLooker, SeatAsBefore};
+ghost use Rattle.hc_c.specs.Seats.{AnswersLooking, AreLookerEnds, AddsLooker, SeatAsBefore};
 ghost use Rattle.hc_c.specs.declared.numbers.TheConstants.{BUSY};
 
 use crate::embedded::Embedded;
@@ -54,7 +54,7 @@ fn open_looker(
     seat: &mut SeatHandle,
 ) -> u8
     ensures answer { AnswersLooking seat.old.mark (length own.old.ends.lookers) number task result }
-    ensures opened { result ≡ DONE → IfSome seat.new.holding.value (OpensLineLooker number task own.old own.new) }
+    ensures opened { result ≡ DONE → IfSome seat.new.holding.value (AddsLooker number task own.old own.new) }
     ensures open { result ≡ DONE → IsSome seat.new.holding.value }
     ensures unchanged { result ≢ DONE → (own.new ≡ own.old) × SeatAsBefore seat.old seat.new }
 {
@@ -95,7 +95,7 @@ pub extern "C" fn zangjulf_look_open(
     seat: &mut SeatHandle,
 ) -> u8
     ensures answer { IfServed handle.old result (λ old. AnswersLooking seat.old.mark (length old.ends.lookers) number task result) }
-    ensures opened { result ≡ DONE → IfSome handle.old.holding.value (λ old. IfSome handle.new.holding.value (λ new. IfSome seat.new.holding.value (OpensLineLooker number task old new))) }
+    ensures opened { result ≡ DONE → IfSome handle.old.holding.value (λ old. IfSome handle.new.holding.value (λ new. IfSome seat.new.holding.value (AddsLooker number task old new))) }
     ensures open { result ≡ DONE → IsSome handle.new.holding.value × IsSome seat.new.holding.value }
     ensures unchanged { result ≢ DONE → HoldsAsBefore handle.old handle.new × SeatAsBefore seat.old seat.new }
     ensures closed { handle.old.holding.value ≡ None → result ≡ no_line_number handle.old.mark }

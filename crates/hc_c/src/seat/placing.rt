@@ -37,7 +37,7 @@ impl OwnerEnds {
         requires { task < TASKS }
         ensures placed { self.new.by_task ≡ set self.old.by_task task (Some owner) }
         ensures lookers { self.new.lookers ≡ self.old.lookers }
-        ensures told { ShowsEnd core.now.history task first Replaced (slice_index_or self.old.by_task task None) result }
+        ensures shown { ShowsEnd core.now.history task first Replaced (slice_index_or self.old.by_task task None) result }
     {
         self.used = self.used.max(task + 1);
         let mut was = mem::replace(&mut self.by_task[usize::from(task)], Some(owner));
@@ -59,7 +59,7 @@ impl OwnerEnds {
         requires { number < length self.old.lookers }
         ensures placed { self.new.lookers ≡ set self.old.lookers number (Some owner) }
         ensures seats { self.new.by_task ≡ self.old.by_task }
-        ensures told { ShowsLookers core.now.history sent_from.now Replaced (slice_index_or self.old.lookers number None ∷ []) (result ∷ []) }
+        ensures shown { ShowsLookers core.now.history sent_from.now Replaced (slice_index_or self.old.lookers number None ∷ []) (result ∷ []) }
     {
         self.lookers.place(core, sent_from, number, owner)
     }
@@ -76,7 +76,7 @@ impl Lookers {
     ) -> Option<LookerEnd>
         requires { number < length self.old }
         ensures placed { self.new ≡ set self.old number (Some owner) }
-        ensures told { ShowsLookers core.now.history sent_from.now Replaced (slice_index_or self.old number None ∷ []) (result ∷ []) }
+        ensures shown { ShowsLookers core.now.history sent_from.now Replaced (slice_index_or self.old number None ∷ []) (result ∷ []) }
     {
         let mut was = mem::replace(&mut self.ends[number], Some(owner));
         if let Some(end) = &mut was {
