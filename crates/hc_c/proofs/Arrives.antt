@@ -8,7 +8,7 @@ use Rattle.hc_records.specs.Line.{State, groups_of, line}
 use Rattle.hc_records.specs.Project.{lowest_fault}
 use Rattle.hc_frames.specs.declared.reading.faults.FrameFault.{FrameFault}
 use Rattle.hc_frames.specs.declared.reading.faults.FrameFault.TheVariants.{Short, NotEtherCat, BadType, BadLength, Circulating, MoreFollows, UnknownCommand, IndexMismatch}
-use Rattle.hc_frames.specs.Arrived.{ArrivedDatagram, fault_in, placed_from, reading_of}
+use Rattle.hc_frames.specs.Arrived.{fault_in, placed_from, reading_of}
 use Rattle.hc_frames.specs.FrameText.{WireDatagram}
 use Rattle.hc_places.specs.Table.{table_of}
 use Rattle.hc_events.specs.declared.answer.Answer.{Answer}
@@ -18,7 +18,6 @@ use Rattle.hc_events.specs.declared.answer.Arrived.TheVariants as arrived
 use Rattle.hc_events.specs.declared.answer.Outcome as core
 use Rattle.hc_events.specs.Accepted.{IsReachable}
 use Rattle.hc_events.specs.Answering.{Judged, judged_by}
-use Rattle.hc_events.specs.Arrivals as frame
 use Rattle.hc_events.specs.Arrivals.{arrival_in, read_unless}
 use Rattle.hc_events.specs.Calls.{MayAnswer}
 use Rattle.hc_events.specs.Entries.{History}

@@ -90,7 +90,7 @@ after_few members frame (datagram ∷ datagrams) =
 
 framed_few : (members : List Member) (serial : ℕ) (datagrams : List Named) → length (framed members serial datagrams) ≤ length datagrams
 framed_few members serial [] = omega arith
-framed_few members serial (datagram ∷ datagrams) = after_few members (frame_of_one serial datagram (line_data_length members datagram)) datagrams
+framed_few members serial (datagram ∷ datagrams) = let few = after_few members (frame_of_one serial datagram (line_data_length members datagram)) datagrams in omega (arith, few)
 
 -- the tasks of a line have few datagrams
 
@@ -130,7 +130,7 @@ sent_small state serial tasks project uncrowded together =
     let frames = sendings_of (line state) serial tasks in
     let few = sent_few state serial tasks project uncrowded together in
     let fit = framed_fit (line state) serial (flat_map (task_datagrams (line state)) tasks) (λ named. short state named project) in
-    let all = sum_by-le 1514 frames (All-weaker Fits (λ (frame : Frame). sent_frame_size frame ≤ 1514) size_most frames fit) in
+    let all = sum_by-le sent_frame_size 1514 frames (All-weaker Fits (λ (frame : Frame). sent_frame_size frame ≤ 1514) size_most frames fit) in
     omega (arith, few, all)
 
 -- those of a proposal

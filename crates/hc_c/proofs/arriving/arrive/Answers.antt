@@ -5,7 +5,6 @@ use Rattle.hc_places.specs.Table.{Table, table_of}
 use Rattle.hc_records.specs.Line.{line}
 use Rattle.hc_events.specs.declared.answer.Outcome as core
 use Rattle.hc_events.specs.Faults.{core_fault_number}
-use Rattle.hc_events.specs.Steps.{Arrives as ArrivesStep, answer_to}
 use Rattle.hc_core.specs.State.{CoreState}
 use Rattle.hc_c.specs.declared.embedded.Embedded.{Embedded}
 use Rattle.hc_c.specs.Counts.{all_judged}

@@ -12,7 +12,7 @@ sent_out-requires-clause-size c =
 pub sent_out-requires-clause-frames : goal.sent_out-requires-clause-frames
 sent_out-requires-clause-frames c =
     let few = frames_few c.args.own.now.core.history c.plan.result.now c.args.tasks.now c.plan.ensures.state c.places.ensures.unchanged c.places.ensures.uncrowded c.requires in
-    let long = c.len.ensures ∙ ap length c.in-Ok.ensures.frames in
+    let long = c.len.ensures ∙ c.send_ready_into.new.frames.ok.0 ∙ ap length c.in-Ok.ensures.frames in
     omega (arith, few, long)
 
 pub refuse_frames-requires : goal.refuse_frames-requires
