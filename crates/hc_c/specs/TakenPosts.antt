@@ -26,9 +26,9 @@ abbrev pub is_refused : Answer → Bool
 is_refused given = not (is_posted given)
 
 -- the newest of some posts, none of none
-abbrev pub newest_of : List Post → List Post
-newest_of [] = []
-newest_of (first ∷ rest) = last_after first rest ∷ []
+abbrev pub newest_alone : List Post → List Post
+newest_alone [] = []
+newest_alone (first ∷ rest) = last_after first rest ∷ []
 
 -- whether the post that was taken last was refused, after these posts came and the newest of them was judged so
 abbrev pub refused_after : List Post → Bool → Bool → Bool
@@ -51,7 +51,7 @@ pub record AreJudged (task : ℕ) (before after : CoreState) (posts : List Post)
 
 -- the newest post of a task's seat that was not taken, if there is one, was taken and judged
 abbrev pub TakesFrom : ℕ → CoreState → CoreState → OwnerEnd → OwnerEnd → Bool × Bool → Type 0
-TakesFrom task before after old new given = (posts : List Post) × ComeOut old new posts given.1 × AreJudged task before after (newest_of posts) given.0 given.1
+TakesFrom task before after old new given = (posts : List Post) × ComeOut old new posts given.1 × AreJudged task before after (newest_alone posts) given.0 given.1
 
 -- so it was with a task's seat, if it has one
 abbrev pub TakesEnd : ℕ → CoreState → CoreState → Option OwnerEnd → Option OwnerEnd → Bool × Bool → Type 0

@@ -137,25 +137,20 @@ pub extern "C" fn zangjulf_open(
 fn show_closed(own: &mut Embedded)
     ensures { EachTold Closed own.new.ends }
 {
-    show_ends(
-        &own.core,
-        &own.sent_from,
-        LineState::Closed,
-        &mut own.ends,
-    );
+    show_ends(&own.core, &own.sent_from, LineState::Closed, &mut own.ends);
 }
 
 /// Shows each seat of the line that a handle holds a last image. The handle must hold a line.
 fn tell_closed(handle: &mut Handle)
     requires { IsSome handle.old.holding.value }
-    ensures told { IfSome handle.new.holding.value (λ line. EachTold Closed line.ends) }
+    ensures last { IfSome handle.new.holding.value (λ line. EachTold Closed line.ends) }
     ensures open { IsSome handle.new.holding.value }
 {
     show_closed(handle.holding.line_mut());
 }
 
-/// Closes a line and gives its memory back. Each seat gets a last image, which says that the line is closed. Returns `DONE`, and the handle may be opened anew. It fails with one of these, and
-/// then the handle is as it was:
+/// Closes a line and gives its memory back. Each seat gets a last image, which says that the line is closed. Returns `DONE`, and
+/// the handle may be opened anew. It fails with one of these, and then the handle is as it was:
 ///
 /// - `CLOSED`: no line is open.
 /// - `MISUSED`: the handle was never zeroed.
