@@ -16,24 +16,24 @@ one_told : (image : Image) (old new : SenderEnd Image) → SendsImage image old 
 one_told image old new sends =
     ap (λ (it : List Image). (newest image_kind image_room it).head.line) sends.shown ∙ ap (λ (it : Image). it.head.line) (last-of-one-more (image_kind.blank image_room) (seen old.place) image)
 
-seats_told : (history : History) (firsts : List ℕ) (line : LineState) (task : ℕ) (olds news : List (Option OwnerEnd)) → ShowsAll history firsts line task olds news → SeatsTold line news
+seats_told : (history : History) (firsts : List ℕ) (line : LineState) (task : ℕ) (olds nexts : List (Option OwnerEnd)) → ShowsAll history firsts line task olds nexts → SeatsTold line nexts
 seats_told history firsts line task [] [] shows = tt
-seats_told history firsts line task [] (new ∷ news) shows = absurd shows
+seats_told history firsts line task [] (new ∷ nexts) shows = absurd shows
 seats_told history firsts line task (old ∷ olds) [] shows = absurd shows
-seats_told history firsts line task (None ∷ olds) (None ∷ news) shows = (tt, seats_told history firsts line (task + 1) olds news shows.1)
-seats_told history firsts line task (None ∷ olds) (Some new ∷ news) shows = absurd shows.0
-seats_told history firsts line task (Some old ∷ olds) (None ∷ news) shows = absurd shows.0
-seats_told history firsts line task (Some old ∷ olds) (Some new ∷ news) shows = (one_told _ old.images new.images shows.0.images, seats_told history firsts line (task + 1) olds news shows.1)
+seats_told history firsts line task (None ∷ olds) (None ∷ nexts) shows = (tt, seats_told history firsts line (task + 1) olds nexts shows.1)
+seats_told history firsts line task (None ∷ olds) (Some new ∷ nexts) shows = absurd shows.0
+seats_told history firsts line task (Some old ∷ olds) (None ∷ nexts) shows = absurd shows.0
+seats_told history firsts line task (Some old ∷ olds) (Some new ∷ nexts) shows = (one_told _ old.images new.images shows.0.images, seats_told history firsts line (task + 1) olds nexts shows.1)
 
-lookers_told : (history : History) (firsts : List ℕ) (line : LineState) (olds news : List (Option LookerEnd)) → ShowsLookers history firsts line olds news → LookersTold line news
+lookers_told : (history : History) (firsts : List ℕ) (line : LineState) (olds nexts : List (Option LookerEnd)) → ShowsLookers history firsts line olds nexts → LookersTold line nexts
 lookers_told history firsts line [] [] shows = tt
-lookers_told history firsts line [] (new ∷ news) shows = absurd shows
+lookers_told history firsts line [] (new ∷ nexts) shows = absurd shows
 lookers_told history firsts line (None ∷ olds) [] shows = absurd shows
 lookers_told history firsts line (Some old ∷ olds) [] shows = absurd shows
-lookers_told history firsts line (None ∷ olds) (None ∷ news) shows = (tt, lookers_told history firsts line olds news shows)
-lookers_told history firsts line (None ∷ olds) (Some new ∷ news) shows = absurd shows
-lookers_told history firsts line (Some old ∷ olds) (None ∷ news) shows = absurd shows
-lookers_told history firsts line (Some old ∷ olds) (Some new ∷ news) shows = (one_told _ old.images new.images shows.0.images, lookers_told history firsts line olds news shows.1)
+lookers_told history firsts line (None ∷ olds) (None ∷ nexts) shows = (tt, lookers_told history firsts line olds nexts shows)
+lookers_told history firsts line (None ∷ olds) (Some new ∷ nexts) shows = absurd shows
+lookers_told history firsts line (Some old ∷ olds) (None ∷ nexts) shows = absurd shows
+lookers_told history firsts line (Some old ∷ olds) (Some new ∷ nexts) shows = (one_told _ old.images new.images shows.0.images, lookers_told history firsts line olds nexts shows.1)
 
 pub each-told : (history : History) (firsts : List ℕ) (line : LineState) (old new : OwnerEnds) → ShowsEnds history firsts line old new → EachTold line new
 each-told history firsts line old new shows = (seats_told history firsts line 0 old.by_task new.by_task shows.0, lookers_told history firsts line old.lookers new.lookers shows.1)
