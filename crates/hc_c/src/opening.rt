@@ -137,12 +137,7 @@ pub extern "C" fn zangjulf_open(
 fn show_closed(own: &mut Embedded)
     ensures { EachTold Closed own.new.ends }
 {
-    show_ends(
-        &own.core,
-        &own.sent_from,
-        LineState::Closed,
-        &mut own.ends,
-    );
+    show_ends(&own.core, &own.sent_from, LineState::Closed, &mut own.ends);
 }
 
 /// Shows each seat of the line that a handle holds a last image. The handle must hold a line.

@@ -4,8 +4,8 @@
 pub mod ends;
 mod handle;
 pub mod limits;
-mod looking;
 pub mod lookers;
+mod looking;
 mod opening;
 mod placing;
 mod posting;

@@ -109,11 +109,7 @@ impl SeatHandle {
         requires { self.now.holding.value ≡ None }
         ensures { result ≡ no_line_number self.now.mark }
     {
-        if self.mark == 0 {
-            CLOSED
-        } else {
-            MISUSED
-        }
+        if self.mark == 0 { CLOSED } else { MISUSED }
     }
 
     /// Takes the task's end out of the handle, which is closed then. The handle must hold one.

@@ -27,13 +27,7 @@ impl OwnerEnds {
 
     /// Gives a task this end in place of what it had, and returns that, whose seat gets a last image: it is replaced. The task's
     /// last sending begins with the serial `first`.
-    pub fn place(
-        &mut self,
-        core: &Core,
-        task: u8,
-        first: u64,
-        owner: OwnerEnd,
-    ) -> Option<OwnerEnd>
+    pub fn place(&mut self, core: &Core, task: u8, first: u64, owner: OwnerEnd) -> Option<OwnerEnd>
         requires { task < TASKS }
         ensures placed { self.new.by_task ≡ set self.old.by_task task (Some owner) }
         ensures lookers { self.new.lookers ≡ self.old.lookers }

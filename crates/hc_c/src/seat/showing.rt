@@ -28,12 +28,7 @@ use hc_places::table::Datagram;
 use hc_records::limits::TASKS;
 
 /// Adds a datagram of so many bytes to the image, with its data, if it has some, and the serial that they answer.
-fn add_slot(
-    images: &mut Sender<TaskImage>,
-    slot: Option<&[u8]>,
-    serial: Option<u64>,
-    size: usize,
-)
+fn add_slot(images: &mut Sender<TaskImage>, slot: Option<&[u8]>, serial: Option<u64>, size: usize)
     requires fits { IfSome (option_copied slot) (λ bytes. length bytes ≡ size) }
     requires bytes { length images.old.own.bytes + size ≤ images.old.own.room.0 }
     requires datagrams { length images.old.own.serials < images.old.own.room.1 }
