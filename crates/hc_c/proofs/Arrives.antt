@@ -1,13 +1,14 @@
 -- What C gets for an arrival, by what the core's call and the reader say.
 use Rattle.std.proofs.Common.{◌≡◌, ◌≢◌, ℕ, ◌+◌, ◌*◌, ◌<◌, ◌≤◌, List, [], ◌∷◌, length, refl, sym, ap, ◌∙◌, subst, arith, inl, Option, Some, None}
-use Rattle.std.specs.Prelude.{All, Ok}
+use Rattle.std.specs.Prelude.{All, Ok, Result}
+use Rattle.core.specs.declared.alloc.AllocError.{AllocError}
 use Rattle.std.proofs.lemmas.List.Elements.{All-head, All-tail}
 use Rattle.hc_records.specs.Edits.{over_limit_task}
 use Rattle.hc_records.specs.Line.{State, groups_of, line}
 use Rattle.hc_records.specs.Project.{lowest_fault}
 use Rattle.hc_frames.specs.declared.reading.faults.FrameFault.{FrameFault}
 use Rattle.hc_frames.specs.declared.reading.faults.FrameFault.TheVariants.{Short, NotEtherCat, BadType, BadLength, Circulating, MoreFollows, UnknownCommand, IndexMismatch}
-use Rattle.hc_frames.specs.Arrived.{ArrivedDatagram, fault_in, placed_from, reading_of}
+use Rattle.hc_frames.specs.Arrived.{fault_in, placed_from, reading_of}
 use Rattle.hc_frames.specs.FrameText.{WireDatagram}
 use Rattle.hc_places.specs.Table.{table_of}
 use Rattle.hc_events.specs.declared.answer.Answer.{Answer}
@@ -17,7 +18,6 @@ use Rattle.hc_events.specs.declared.answer.Arrived.TheVariants as arrived
 use Rattle.hc_events.specs.declared.answer.Outcome as core
 use Rattle.hc_events.specs.Accepted.{IsReachable}
 use Rattle.hc_events.specs.Answering.{Judged, judged_by}
-use Rattle.hc_events.specs.Arrivals as frame
 use Rattle.hc_events.specs.Arrivals.{arrival_in, read_unless}
 use Rattle.hc_events.specs.Calls.{MayAnswer}
 use Rattle.hc_events.specs.Entries.{History}
@@ -201,3 +201,6 @@ outcomes-few old bytes arrived.Written list none is all empty =
 outcomes-few old bytes arrived.WriteDone list none is all empty = none_few list (empty (λ e. cc) (λ e. cc))
 outcomes-few old bytes arrived.WriteMissed list none is all empty = none_few list (empty (λ e. cc) (λ e. cc))
 outcomes-few old bytes arrived.Stale list none is all empty = none_few list (empty (λ e. cc) (λ e. cc))
+
+pub same_ok : {one other : Arrived} → ◌≡◌ {A = Result Arrived AllocError} (Ok one) (Ok other) → one ≡ other
+same_ok e = cc

@@ -1,5 +1,5 @@
 -- How many bytes frames have: none has more than an Ethernet frame, so that those of a sending and of a register write fit 32 bits.
-use Rattle.std.proofs.Common.{rules, ◌≡◌, ◌∙◌, ℕ, ◌+◌, ◌*◌, ◌/◌, ◌<◌, ◌≤◌, Bool, true, false, List, [], ◌∷◌, length, refl, sym, ap, subst, arith, if◌then◌else◌, inl, inr, length-append, None, Some, rules}
+use Rattle.std.proofs.Common.{◌≡◌, ◌≢◌, ℕ, ◌+◌, ◌*◌, ◌/◌, ◌<◌, ◌≤◌, Bool, true, false, List, [], ◌∷◌, length, refl, subst, arith, if◌then◌else◌, inl, inr, length-append, None, Some}
 use Rattle.std.specs.Prelude.{All, ◌==◌, ◌⊎◌, sum_by}
 use Rattle.std.specs.List.{flat_map}
 use Rattle.std.proofs.lemmas.Bool.{cases_lt}
@@ -22,7 +22,7 @@ use Rattle.hc_records.proofs.lemmas.Inside.{packed-inside}
 use Rattle.hc_records.proofs.lemmas.Packable.{project-packable}
 use Rattle.hc_registers.specs.Blocks.{LineBlock}
 use Rattle.hc_frames.specs.declared.limits.TheConstants.{MAX_ETHERCAT}
-use Rattle.hc_events.specs.declared.faults.CoreFault.TheVariants.{Room}
+use Rattle.hc_events.specs.declared.faults.CoreFault.TheVariants.{Memory, Room}
 use Rattle.hc_events.specs.Calls.{AreSentTogether, frames_size, ready_into_faults, write_all_into_faults, write_into_faults, write_size}
 use Rattle.hc_events.specs.Entries.{History}
 use Rattle.hc_events.specs.Owed.{owed_blocks}
@@ -55,8 +55,8 @@ abbrev Fits : Frame → Type 0
 Fits frame = 2 + frame.bytes ≤ MAX_ETHERCAT
 
 either : (P : List Frame → Type 0) (room : Bool) (a b : List Frame) → (room ≡ true → P a) → P b → P (if room then a else b)
-either P true a b yes no = yes refl
-either P false a b yes no = no
+either P true a b first second = first refl
+either P false a b first second = second
 
 joined_fits : (frame : Frame) (named : Named) (size : ℕ) → has_room frame.bytes size ≡ true → Fits (frame_joined frame named size)
 joined_fits frame named size t = grind (arith, nat_tests)
@@ -85,12 +85,12 @@ after_few members frame (datagram ∷ datagrams) =
     let size = line_data_length members datagram in
     let joined = after_few members (frame_joined frame datagram size) datagrams in
     let next = after_few members (frame_of_one (frame.serial + 1) datagram size) datagrams in
-    either (λ (frames : List Frame). length frames ≤ 1 + (1 + length datagrams)) (has_room frame.bytes size) (framed_after members (frame_joined frame datagram size) datagrams)
+    either (λ (frames : List Frame). length frames ≤ 1 + length (datagram ∷ datagrams)) (has_room frame.bytes size) (framed_after members (frame_joined frame datagram size) datagrams)
     (frame ∷ framed_after members (frame_of_one (frame.serial + 1) datagram size) datagrams) (λ t. omega (arith, joined)) (omega (arith, next))
 
 framed_few : (members : List Member) (serial : ℕ) (datagrams : List Named) → length (framed members serial datagrams) ≤ length datagrams
 framed_few members serial [] = omega arith
-framed_few members serial (datagram ∷ datagrams) = after_few members (frame_of_one serial datagram (line_data_length members datagram)) datagrams
+framed_few members serial (datagram ∷ datagrams) = let few = after_few members (frame_of_one serial datagram (line_data_length members datagram)) datagrams in omega (arith, few)
 
 -- of which tasks have few
 
@@ -104,7 +104,7 @@ task_few : (state : State) (task : ℕ) → lowest_fault (groups_of state.groups
 task_few state task project uncrowded =
     let count = datagram_count (task_places task (line state)) in
     let few = low_few state task project uncrowded (cases_lt task TASKS) (cases_lt 0 count) in
-    let long = length-map-range_with_len (λ d. (task, d)) 0 count in
+    let long = length-map-range_with_len {X = Named} (λ d. (task, d)) 0 count in
     omega (arith, few, long)
 
 tasks_few : (state : State) (tasks : List ℕ) → lowest_fault (groups_of state.groups) ≡ None → over_limit_task (line state) ≡ None → length (flat_map (task_datagrams (line state)) tasks) ≤ MOST_DATAGRAMS * length tasks
@@ -130,7 +130,7 @@ sent_small state serial tasks project uncrowded together =
     let frames = sendings_of (line state) serial tasks in
     let few = sent_few state serial tasks project uncrowded together in
     let fit = framed_fit (line state) serial (flat_map (task_datagrams (line state)) tasks) (λ named. short state named project) in
-    let all = sum_by-le 1514 frames (All-weaker Fits (λ (frame : Frame). sent_frame_size frame ≤ 1514) size_most frames fit) in
+    let all = sum_by-le sent_frame_size 1514 frames (All-weaker Fits (λ (frame : Frame). sent_frame_size frame ≤ 1514) size_most frames fit) in
     omega (arith, few, all)
 
 -- those of a proposal
@@ -143,6 +143,9 @@ pub frames_few : (history : History) (plan : State) (tasks : List ℕ) → plan 
 frames_few history plan tasks is project uncrowded together =
     let few = subst (λ (state : State). length (sendings_of (line state) (next_serial history) tasks) ≤ 128) is (sent_few plan (next_serial history) tasks project uncrowded together) in
     omega (arith, few)
+
+pub room_other : (bytes : ℕ) → Room bytes ≢ Memory
+room_other bytes e = cc
 
 pub frames_need_small : (history : History) (plan : State) (tasks : List ℕ) (bytes needed : ℕ) → plan ≡ state_of history → lowest_fault (groups_of plan.groups) ≡ None → over_limit_task (line plan) ≡ None → AreSentTogether tasks
     → lowest (ready_into_faults history tasks bytes) ≡ Some (Room needed) → needed < 4294967296

@@ -10,6 +10,7 @@ mod Lookers
 mod Mailed
 mod Masks
 mod Offset
+mod Places
 mod Refusals
 mod Returned
 mod Rooms

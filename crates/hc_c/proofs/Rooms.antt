@@ -9,7 +9,7 @@ use Rattle.hc_events.specs.Calls.{frames_size, ready_into_faults, room_faults, s
 use Rattle.hc_events.specs.Entries.{History}
 use Rattle.hc_events.specs.Faults.{core_fault_number}
 use Rattle.hc_events.specs.Owed.{owed_blocks}
-use Rattle.hc_events.specs.Steps.{has_serials, is_no_task, proposal, ready_faults, task_faults, wait_fault, write_faults}
+use Rattle.hc_events.specs.Steps.{has_serials, proposal, ready_faults, task_faults, wait_fault, write_faults}
 use Rattle.hc_events.specs.WriteFrames.{frame_blocks, writes_size}
 
 -- no other fault has its number

@@ -1,5 +1,5 @@
 -- No task from a number on has a seat: what is shown and taken there, and what a new seat changes of it.
-use Rattle.std.proofs.Common.{rules, ◌≡◌, ◌≢◌, ◌∙◌, ℕ, zero, suc, ◌+◌, ◌-◌, ◌<◌, ◌≤◌, true, false, List, [], ◌∷◌, Option, None, Some, set, refl, arith}
+use Rattle.std.proofs.Common.{◌≡◌, ℕ, zero, suc, ◌+◌, ◌<◌, ◌≤◌, true, false, List, [], ◌∷◌, Option, None, Some, set, refl, arith}
 use Rattle.hc_events.specs.Entries.{History}
 use Rattle.hc_core.specs.State.{CoreState}
 use Rattle.hc_mail.specs.declared.image.LineState.{LineState}

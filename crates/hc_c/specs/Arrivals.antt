@@ -19,7 +19,7 @@ use Rattle.hc_c.specs.declared.arriving.TheConstants.{BLOCK_MISSED, BLOCK_WRITTE
 use Rattle.hc_c.specs.declared.embedded.Embedded.{Embedded}
 use Rattle.hc_c.specs.declared.numbers.TheConstants.{DONE}
 use Rattle.hc_c.specs.declared.handle.Handle.{Handle}
-use Rattle.hc_c.specs.Counts.{Counts, all_judged}
+use Rattle.hc_c.specs.Counts.{all_judged}
 use Rattle.hc_c.specs.Embedded.{embedded_discarding, embedded_history, with_counts}
 use Rattle.hc_c.specs.Handles.{HoldsAsBefore}
 use Rattle.hc_c.specs.Lists.{put_first}

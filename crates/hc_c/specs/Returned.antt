@@ -1,5 +1,5 @@
 -- What the code makes of a frame that is answered: outcome beside part, by the part's own address and the table of the present line. No public contract names it.
-use Rattle.std.specs.Prelude.{◌≡◌, ℕ, ◌+◌, ◌≤◌, List, [], ◌∷◌, length}
+use Rattle.std.specs.Prelude.{ℕ, ◌+◌, ◌≤◌, List, [], ◌∷◌, length}
 use Rattle.std.specs.Option.{option_map_or}
 use Rattle.hc_frames.specs.Arrived.{ArrivedDatagram}
 use Rattle.hc_places.specs.Table.{Table, datagram_in}

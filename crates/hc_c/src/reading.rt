@@ -143,7 +143,7 @@ fn image_out(core: &Core, task: u8, datagrams: &[Datagram], first: u64) -> Image
         size: in_32_bits(image_size(datagrams)),
         datagrams: in_16_bits(datagrams.len()),
         has: mask(core, task, 0, datagrams),
-        state: state_number(since, datagrams.len() as u8),
+        state: state_number(usize::from(since), datagrams.len()),
         reserved: [0; 7],
     }
 }

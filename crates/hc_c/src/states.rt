@@ -23,7 +23,7 @@ pub fn is_since(first: u64, serial: Option<u64>) -> bool
 }
 
 /// The state of a task so many of whose datagrams have data that answer its last sending.
-pub fn state_number(since: u8, all: u8) -> u8
+pub fn state_number(since: usize, all: usize) -> u8
     ensures { result ≡ state_number since all }
 {
     if since == all {
@@ -52,7 +52,7 @@ pub fn task_state(first: u64, serials: &[Option<u64>]) -> u8
     requires { length serials.now ≤ MOST_DATAGRAMS }
     ensures { result ≡ task_state first serials.now }
 {
-    state_number(count_since(first, serials), serials.len() as u8)
+    state_number(usize::from(count_since(first, serials)), serials.len())
 }
 
 /// The first serial of a task's last sending, 0 before one and of no task.

@@ -85,7 +85,7 @@ pub struct Writes {
 /// - 18: no block is owed.
 /// - 19: no serial is left.
 /// - `ROOM`: `out` is too short. `writes.size` is the bytes that are needed, and `writes.blocks` is as it was.
-#[tactic(auto, using(crate::proofs::Rooms::writes_need, crate::proofs::FrameSizes::writes_small, crate::proofs::FrameSizes::blocks_small, crate::proofs::FrameSizes::writes_need_small))]
+#[tactic(auto, using(crate::proofs::Rooms::writes_need, crate::proofs::FrameSizes::writes_need_small))]
 #[unsafe(no_mangle)]
 pub extern "C" fn zangjulf_next_writes(
     handle: &mut Handle,

@@ -5,13 +5,12 @@ use Rattle.hc_places.specs.Table.{Table, table_of}
 use Rattle.hc_records.specs.Line.{line}
 use Rattle.hc_events.specs.declared.answer.Outcome as core
 use Rattle.hc_events.specs.Faults.{core_fault_number}
-use Rattle.hc_events.specs.Steps.{Arrives as ArrivesStep, answer_to}
 use Rattle.hc_core.specs.State.{CoreState}
 use Rattle.hc_c.specs.declared.embedded.Embedded.{Embedded}
 use Rattle.hc_c.specs.Counts.{all_judged}
 use Rattle.hc_c.specs.Lists.{put_first}
 use Rattle.hc_c.specs.Returned.{IsInFrame, answered_as, arrival_out, counted_as}
-use Rattle.hc_c.proofs.Arrives.{IsDone, done-arrives, fault-other, outcomes-few, refused-arrives}
+use Rattle.hc_c.proofs.Arrives.{IsDone, done-arrives, fault-other, outcomes-few, refused-arrives, same_ok}
 use Rattle.hc_c.proofs.InFrame.{in-frame}
 use Rattle.hc_c.proofs.arriving.arrive.Goals as goal
 
@@ -47,7 +46,7 @@ returns-clause-answer c =
     ∙ ap (λ (one : List ArrivedDatagram). put_first (answered_as which table list one) before) parts)
     (c.arrival_out.ensures
     ∙ ap (λ n. arrival_out which n c.serial.result) (ap length c.as_slice-found.ensures.value)
-    ∙ ap (arrival_out which (length list)) (c.serial.ensures ∙ ap (λ (one : Reading). one.serial) frame))
+    ∙ ap (arrival_out which (length list)) (c.serial.ensures.value ∙ ap (λ (one : Reading). one.serial) frame))
     (c.put_arrived.ensures.counted
     ∙ ap (λ (one : Table). all_judged own.counts (counted_as which one c.as_slice-found.result.now c.parts.result)) c.places-places.ensures.table
     ∙ ap (λ (one : List core.Outcome). all_judged own.counts (counted_as which table one c.parts.result)) c.as_slice-found.ensures.value
@@ -63,7 +62,7 @@ pub arrival_out-requires : goal.arrival_out-requires
 arrival_out-requires c =
     let list = c.arrive_discarding.new.outcomes.items in
     subst (λ (one : List core.Outcome). length one < 65536) (sym c.as_slice-found.ensures.value)
-    (outcomes-few c.args.own.now.core.history c.args.bytes.now c.in-Ok-arrive_discarding.arrived list c.in-Ok.ensures.0 c.in-Ok-arrive_discarding.ensures.answer (in-frame c.args.bytes.now c.in-Ok.ensures.0) (λ tasks blocks. c.in-Ok-arrive_discarding.ensures.none tasks blocks))
+    (outcomes-few c.args.own.now.core.history c.args.bytes.now c.in-Ok-arrive_discarding.arrived list c.in-Ok.ensures.0 c.in-Ok-arrive_discarding.ensures.answer (in-frame c.args.bytes.now c.in-Ok.ensures.0) (λ tasks blocks. c.in-Ok-arrive_discarding.ensures.none (λ e. tasks (same_ok e)) (λ e. blocks (same_ok e))))
 
 pub returns-in-Err-clause-busy : goal.returns-in-Err-clause-busy
 returns-in-Err-clause-busy c = fault-other c.in-Err.fault c.number.result (c.number.ensures ∙ ap core_fault_number c.from.ensures)

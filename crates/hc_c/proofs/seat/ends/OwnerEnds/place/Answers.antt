@@ -1,4 +1,4 @@
-use Rattle.std.proofs.Common.{◌≡◌, ◌∙◌, ◌+◌, ◌≤◌, arith}
+use Rattle.std.proofs.Common.{arith}
 use Rattle.hc_c.proofs.SeatEnds.{none-later}
 use Rattle.hc_c.proofs.seat.ends.OwnerEnds.place.Goals as goal
 
