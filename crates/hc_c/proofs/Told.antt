@@ -1,5 +1,5 @@
 -- Each seat that was shown an image which says what became of the line was told so.
-use Rattle.std.proofs.Common.{◌≡◌, ◌∙◌, ℕ, ◌+◌, List, [], ◌∷◌, Option, None, Some, ap}
+use Rattle.std.proofs.Common.{◌∙◌, ℕ, ◌+◌, List, [], ◌∷◌, Option, None, Some, ap}
 use Rattle.hc_events.specs.Entries.{History}
 use Rattle.hc_mail.specs.Contents.{newest}
 use Rattle.hc_mail.specs.Ends.{SenderEnd, seen}
