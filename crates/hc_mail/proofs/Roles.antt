@@ -7,14 +7,14 @@ use Rattle.hc_mail.specs.Rule.{HomeSlots, Layout, Plays, SawAll}
 
 module _ {X : Type 0} (p p' : Layout X) (slots slots' : HomeSlots X) (seat : ℕ) where
   -- what the sender knows of the layout is as before
-  abbrev pub SenderKeeps : Type 0
-  SenderKeeps = seat ≡ p.sender → (p'.sender ≡ p.sender) × (p'.all ≡ p.all) × (p'.own ≡ p.own) × (get_elem? slots' p.own ≡ get_elem? slots p.own)
+  abbrev pub OwnerKeeps : Type 0
+  OwnerKeeps = seat ≡ p.sender → (p'.sender ≡ p.sender) × (p'.all ≡ p.all) × (p'.own ≡ p.own) × (get_elem? slots' p.own ≡ get_elem? slots p.own)
 
   -- what the receiver knows of the layout, after it saw some contents, is as before
-  abbrev pub ReceiverKeeps : List X → Type 0
-  ReceiverKeeps seen = SawAll p slots seat seen → SawAll p' slots' seat seen × (p.newer ≡ 1 → p'.newer ≡ 1) × (p'.shown ≡ p.shown) × (get_elem? slots' p.shown ≡ get_elem? slots p.shown)
+  abbrev pub TaskKeeps : List X → Type 0
+  TaskKeeps seen = SawAll p slots seat seen → SawAll p' slots' seat seen × (p.newer ≡ 1 → p'.newer ≡ 1) × (p'.shown ≡ p.shown) × (get_elem? slots' p.shown ≡ get_elem? slots p.shown)
 
-  pub plays_on : (role : Role) (seen : List X) → SenderKeeps → ReceiverKeeps seen → Plays p slots seat role seen → Plays p' slots' seat role seen
+  pub plays_on : (role : Role) (seen : List X) → OwnerKeeps → TaskKeeps seen → Plays p slots seat role seen → Plays p' slots' seat role seen
   plays_on Rests seen owner task plays = tt
   plays_on Opens seen owner task plays = let o = owner plays.0.0 in let t = task plays.1 in (
     (plays.0.0 ∙ sym o.0, plays.0.1 ∙ sym o.1),
