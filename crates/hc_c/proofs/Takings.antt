@@ -1,12 +1,12 @@
 -- The newest of the posts that came since the owner looked before is taken and judged.
-use Rattle.std.proofs.Common.{◌≡◌, ◌∙◌, ℕ, ◌<◌, Bool, true, false, List, [], ◌∷◌, length, refl, sym, ap, subst}
+use Rattle.std.proofs.Common.{◌≡◌, ◌∙◌, ℕ, ◌<◌, Bool, true, false, [], ◌∷◌, length, refl, sym, ap, subst}
 use Rattle.std.specs.Prelude.{not, ◌||◌}
 use Rattle.std.specs.List.{list_any}
 use Rattle.hc_events.specs.declared.answer.Answer.{Answer}
 use Rattle.hc_events.specs.Steps.{answer_to, entries_after}
 use Rattle.hc_core.specs.State.{CoreState}
 use Rattle.hc_mail.specs.Contents.{StartsWith, last_after, newest}
-use Rattle.hc_mail.specs.Ends.{Place, ReceiverEnd, StaysAtTable, reported, seen}
+use Rattle.hc_mail.specs.Ends.{ReceiverEnd, StaysAtTable, reported, seen}
 use Rattle.hc_mail.specs.Posts.{Post, post_kind}
 use Rattle.hc_c.specs.TakenPosts.{TakesFrom, event_of, is_posted, is_refused}
 use Rattle.hc_c.specs.declared.seat.ends.OwnerEnd.{OwnerEnd}

@@ -1,5 +1,5 @@
--- Which tasks have a seat, and what the last image of one says of its line.
-use Rattle.std.specs.Prelude.{◌≡◌, ℕ, Bool, List, Option, None, Some, drop, is_some}
+-- Which tasks have a seat.
+use Rattle.std.specs.Prelude.{ℕ, Bool, List, Option, drop, is_some}
 use Rattle.std.specs.List.{list_any}
 
 -- some task from this one on has a seat's end

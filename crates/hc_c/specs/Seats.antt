@@ -1,5 +1,5 @@
 -- What calls say of a seat's two ends before and after.
-use Rattle.std.specs.Prelude.{◌≡◌, ◌≢◌, ◌⊎◌, ℕ, ◌+◌, ◌*◌, ◌<◌, ◌≤◌, nat_le, nat_lt, ◌||◌, ◌&&◌, Bool, true, false, List, [], ◌∷◌, ◌++◌, ◌==◌, if◌then◌else◌, not, IfSome, MatchOption, Option, None, Some, drop, is_some, length, map, replicate, set, slice_index_or, unwrap_or}
+use Rattle.std.specs.Prelude.{◌≡◌, ◌≢◌, ◌⊎◌, ℕ, ◌+◌, ◌*◌, ◌<◌, ◌≤◌, nat_le, nat_lt, ◌||◌, ◌&&◌, Bool, true, false, List, [], ◌∷◌, ◌++◌, ◌==◌, if◌then◌else◌, not, IfSome, Option, None, Some, drop, is_some, length, map, replicate, set, unwrap_or}
 use Rattle.hc_records.specs.declared.limits.TheConstants.{TASKS}
 use Rattle.hc_events.specs.declared.faults.CoreFault.{CoreFault}
 use Rattle.hc_events.specs.declared.faults.CoreFault.TheVariants.{NoSuchTask, PostLength, StalePost}
@@ -15,7 +15,7 @@ use Rattle.hc_c.specs.Embedded.{embedded_history, task_sent_from}
 use Rattle.hc_c.specs.Lists.{put_first}
 use Rattle.hc_c.specs.Numbers.{refusal_number}
 use Rattle.hc_c.specs.Reads.{bit_mask}
-use Rattle.hc_c.specs.SeatImages.{ShowsEnds, head_of, image_shown, looker_image}
+use Rattle.hc_c.specs.SeatImages.{ShowsEnds, looker_image}
 use Rattle.hc_c.specs.SeatRoom.{image_room, post_room}
 use Rattle.hc_c.specs.States.{task_state}
 use Rattle.hc_c.specs.declared.embedded.Embedded.{Embedded}
@@ -166,7 +166,7 @@ outputs_beside image (Some posts) = if fits_image image (last_posted posts) then
 abbrev pub outputs_begun : TaskEnd → List ℕ
 outputs_begun end = outputs_beside (at_hand end) end.posts
 
--- an image says that the line is open and the seat the present one
+-- the line is open and the seat the present one
 abbrev pub is_open : LineState → Bool
 is_open Open = true
 is_open other = false

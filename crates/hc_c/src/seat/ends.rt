@@ -1,6 +1,5 @@
 //! The two ends of a seat.
-ghost use Rattle.std.specs.Prelude.{◌≡◌, ◌<◌, false};
-ghost use Rattle.hc_records.specs.declared.limits.TheConstants.{TASKS};
+ghost use Rattle.std.specs.Prelude.{◌≡◌, false};
 ghost use Rattle.hc_mail.specs.Contents.{newest};
 ghost use Rattle.hc_mail.specs.Ends.{seen};
 ghost use Rattle.hc_mail.specs.Posts.{post_kind};

@@ -1,9 +1,8 @@
 //! Seats that only look are opened: for threads that read a task's images and post nothing.
-ghost use Rattle.std.specs.Prelude.{◌≡◌, ◌≢◌, ◌<◌, IfOk, IfSome, IsSome, None, length, slice_index_or};
+ghost use Rattle.std.specs.Prelude.{◌≡◌, ◌≢◌, ◌<◌, IfOk, IfSome, IsSome, None, length};
 ghost use Rattle.hc_records.specs.declared.limits.TheConstants.{TASKS};
 ghost use Rattle.hc_c.specs.Handles.{HoldsAsBefore, IfServed, no_line_number};
-ghost use Rattle.hc_c.specs.Seats.{AnswersLooking, AreLookerEnds, AddsLooker, SeatAsBefore};
-ghost use Rattle.hc_c.specs.declared.numbers.TheConstants.{BUSY};
+ghost use Rattle.hc_c.specs.Seats.{AddsLooker, AnswersLooking, AreLookerEnds, SeatAsBefore};
 
 use crate::embedded::Embedded;
 use crate::handle::Handle;

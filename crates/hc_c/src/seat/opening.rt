@@ -1,12 +1,11 @@
 //! A seat is opened and closed.
-ghost use Rattle.std.specs.Prelude.{◌≡◌, ◌≢◌, ◌⊎◌, ◌<◌, IfOk, IfSome, IsSome, None, is_some, slice_index_or};
+ghost use Rattle.std.specs.Prelude.{◌≡◌, ◌≢◌, ◌<◌, IfOk, IfSome, IsSome, None};
 ghost use Rattle.hc_records.specs.declared.limits.TheConstants.{TASKS};
 ghost use Rattle.hc_c.specs.Handles.{HoldsAsBefore, IfServed, no_line_number};
 ghost use Rattle.hc_c.specs.SeatImages.{head_of, image_shown};
 ghost use Rattle.hc_c.specs.SeatRoom.{image_room};
 ghost use Rattle.hc_c.specs.Seats.{AnswersOpening, AreEnds, ArePostEnds, BeginWith, OpensLineSeat, SeatAsBefore};
 ghost use Rattle.hc_mail.specs.declared.image.LineState.TheVariants.{Open};
-ghost use Rattle.hc_c.specs.declared.numbers.TheConstants.{BUSY};
 
 use crate::embedded::Embedded;
 use crate::handle::Handle;

@@ -1,5 +1,5 @@
 //! New ends of seats take their places among the owner's.
-ghost use Rattle.std.specs.Prelude.{◌≡◌, ◌<◌, ◌≤◌, ◌∷◌, [], IfOk, None, Some, length, set, slice_index_or};
+ghost use Rattle.std.specs.Prelude.{◌≡◌, ◌<◌, ◌∷◌, [], IfOk, None, Some, length, set, slice_index_or};
 ghost use Rattle.hc_records.specs.declared.limits.TheConstants.{TASKS};
 ghost use Rattle.hc_mail.specs.declared.image.LineState.TheVariants.{Replaced};
 ghost use Rattle.hc_c.specs.SeatImages.{ShowsEnd, ShowsLookers};

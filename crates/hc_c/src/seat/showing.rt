@@ -1,11 +1,9 @@
 //! The owner shows each seat what its task reads.
-ghost use Rattle.std.specs.Prelude.{◌≡◌, ◌≢◌, ◌+◌, ◌≤◌, ◌<◌, IfSome, None, false, length, slice_index_or, take};
+ghost use Rattle.std.specs.Prelude.{◌≡◌, ◌≢◌, ◌+◌, ◌≤◌, ◌<◌, IfSome, None, false, length, take};
 ghost use Rattle.std.specs.Option.{option_copied};
 ghost use Rattle.hc_records.specs.declared.limits.TheConstants.{MOST_DATAGRAMS, TASKS};
 ghost use Rattle.hc_records.specs.Image.{datagram_count, task_places};
 ghost use Rattle.hc_events.specs.Points.{line_of};
-ghost use Rattle.hc_mail.specs.Contents.{counted};
-ghost use Rattle.hc_mail.specs.Ends.{seen};
 ghost use Rattle.hc_mail.specs.Images.{with_outputs};
 ghost use Rattle.hc_c.specs.Handles.{HoldsAsBefore, no_line_number};
 ghost use Rattle.hc_c.specs.Pieces.{HaveLengths};

@@ -1,4 +1,4 @@
-use Rattle.std.proofs.Common.{◌≡◌, ◌∙◌, Some, ap, sym}
+use Rattle.std.proofs.Common.{◌∙◌, Some, ap, sym}
 use Rattle.hc_c.specs.Opening.{opened_by}
 use Rattle.hc_c.proofs.opening.zangjulf_open.Goals as goal
 

@@ -11,6 +11,6 @@ returns c =
     let args = c.args in let history = args.core.now.history in
     let begins = subst (λ (head : ImageHead). BeginWith (image_shown history args.task head) c.in_ok-sender.sender c.in_ok-sender.receiver) c.head_of-head.ensures c.in_ok-sender.ensures.begins in record {
       images = subst (λ (end : TaskEnd). BeginWith (looker_image history args.task args.first Open) c.in_ok-sender.sender end.images) (sym c.in_ok-own.ensures.ok) begins;
-      posts = (c.in_ok-posts.posts, ap (λ (end : TaskEnd). end.posts) c.in_ok-own.ensures, c.in_ok-posts.ensures);
+      posts = (c.in_ok-posts.posts, ap (λ (end : TaskEnd). end.posts) c.in_ok-own.ensures.ok, c.in_ok-posts.ensures);
       refused = refl;
     }

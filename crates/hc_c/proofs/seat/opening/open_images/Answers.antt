@@ -1,4 +1,4 @@
-use Rattle.std.proofs.Common.{rules, ◌≡◌, ◌∙◌, List, [], ◌∷◌, ◌++◌, ap, sym, subst}
+use Rattle.std.proofs.Common.{rules, ◌∙◌, List, [], ◌∷◌, ◌++◌, ap, sym, subst}
 use Rattle.hc_mail.specs.Contents.{StartsWith}
 use Rattle.hc_mail.specs.Ends.{ReceiverEnd, SenderEnd, reported, seen}
 use Rattle.hc_mail.specs.Images.{Image}

@@ -1,4 +1,4 @@
-use Rattle.std.proofs.Common.{◌≡◌, ◌∙◌, ap, sym}
+use Rattle.std.proofs.Common.{◌∙◌, ap, sym}
 use Rattle.hc_mail.specs.Contents.{Room, newest}
 use Rattle.hc_mail.specs.Ends.{seen}
 use Rattle.hc_mail.specs.Posts.{Post, post_kind, post_of}

@@ -1,6 +1,5 @@
 use Rattle.std.proofs.Common.{◌∙◌, ap, sym}
-use Rattle.hc_mail.specs.declared.image.ImageHead.{ImageHead}
-use Rattle.hc_c.specs.SeatImages.{SendsImage, head_of, image_shown}
+use Rattle.hc_c.specs.SeatImages.{head_of}
 use Rattle.hc_c.proofs.seat.showing.show_end.Goals as goal
 
 pub returns : goal.returns

@@ -1,4 +1,4 @@
-use Rattle.std.proofs.Common.{◌∙◌, ◌∷◌, ◌++◌, [], None, ap}
+use Rattle.std.proofs.Common.{None}
 use Rattle.hc_c.proofs.Lookers.{replicate-one-more}
 use Rattle.hc_c.proofs.seat.lookers.Lookers.new.Goals as goal
 
