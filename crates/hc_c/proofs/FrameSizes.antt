@@ -13,7 +13,7 @@ use Rattle.hc_records.specs.Image.{datagram_count, end_of, inside, task_places}
 use Rattle.hc_records.specs.Laws.{LiesInside}
 use Rattle.hc_records.specs.Line.{Member, State, groups_of, line}
 use Rattle.hc_records.specs.Lists.{lowest}
-use Rattle.hc_records.specs.Packing.{Placed, opening, packed}
+use Rattle.hc_records.specs.Packing.{opening, packed}
 use Rattle.hc_records.specs.Project.{lowest_fault}
 use Rattle.hc_records.specs.TaskList.{task_list}
 use Rattle.hc_records.proofs.lemmas.Addresses.{uncrowded-few}
@@ -47,7 +47,7 @@ short state named project =
     let list = task_list named.0 (line state) in
     let areas = packed opening list in
     let lie : All LiesInside (inside named.1 areas) = All-filter (λ area. area.datagram == named.1) LiesInside areas (packed-inside opening list (project-packable state named.0 project)) in
-    bytes_most (end_of (inside named.1 areas)) (greatest-most (λ (area : Placed). area.bit + area.bits) 0 MOST_AREA_BITS (inside named.1 areas) (omega arith) lie)
+    bytes_most (end_of (inside named.1 areas)) (greatest-most (λ area. area.bit + area.bits) 0 MOST_AREA_BITS (inside named.1 areas) (omega arith) lie)
 
 -- so each frame fits
 

@@ -20,4 +20,4 @@ mod SteadySlots
 mod Taken
 mod TakenBits
 mod Takings
-mod Told
+mod LastImages

@@ -36,8 +36,8 @@ abbrev pub outputs_of : History → ℕ → List ℕ
 outputs_of history task = take (task_part_bytes history task).0 (sent_from history task 0 (datagrams_of history task))
 
 -- what an image of a task says beside its data: the epochs, the first serial of the task's last sending, the number of the post that was taken last and whether it was refused, and what became of the line
-abbrev pub head_of : History → ℕ → ℕ → ℕ → Bool → LineState → ImageHead
-head_of history task first taken is_refused line =
+abbrev pub head_shown : History → ℕ → ℕ → ℕ → Bool → LineState → ImageHead
+head_shown history task first taken is_refused line =
     record { epoch = epoch_of history; task_epoch = task_epoch history task; first_serial = first; taken = taken; is_refused = is_refused; line = line }
 
 -- an image of a task with this head: what the task reads of its datagrams, the serials that their data answer, and the task's outputs
@@ -68,11 +68,11 @@ pub record SendsImage (image : Image) (old new : SenderEnd Image) : Type 0 where
 
 -- what a task's seat is shown, if the task's last sending begins with a serial and this became of the line: the post that was taken last is the newest of those that the owner saw
 abbrev pub seat_image : History → ℕ → ℕ → LineState → OwnerEnd → Image
-seat_image history task first line end = image_shown history task (head_of history task first (counted (length (seen end.posts.place))) end.is_refused line)
+seat_image history task first line end = image_shown history task (head_shown history task first (counted (length (seen end.posts.place))) end.is_refused line)
 
 -- what a seat that only looks is shown: it has no post
 abbrev pub looker_image : History → ℕ → ℕ → LineState → Image
-looker_image history task first line = image_shown history task (head_of history task first 0 false line)
+looker_image history task first line = image_shown history task (head_shown history task first 0 false line)
 
 -- one image more was shown to a task's seat; what it posted is as it was
 pub record Shows (history : History) (task first : ℕ) (line : LineState) (old new : OwnerEnd) : Type 0 where

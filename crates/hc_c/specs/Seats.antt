@@ -8,7 +8,7 @@ use Rattle.hc_events.specs.Faults.{core_fault_number}
 use Rattle.hc_mail.specs.Contents.{StartsWith, counted, newest}
 use Rattle.hc_mail.specs.Ends.{ReceiverEnd, SenderEnd, StaysAtTable, reported, seen}
 use Rattle.hc_mail.specs.Images.{Image, image_kind}
-use Rattle.hc_mail.specs.Posts.{Post, post_kind, post_of}
+use Rattle.hc_mail.specs.Posts.{MailedPost, post_kind, mailed_post}
 use Rattle.hc_mail.specs.declared.image.LineState.{LineState}
 use Rattle.hc_mail.specs.declared.image.LineState.TheVariants.{Closed, Open, Replaced}
 use Rattle.hc_c.specs.Embedded.{embedded_history, task_sent_from}
@@ -47,7 +47,7 @@ pub record BeginWith (image : Image) (owner : SenderEnd Image) (task : ReceiverE
   pub viewed : seen task.place ≡ image ∷ []
 
 -- what a task posts by and the owner's end for it: nothing was posted
-pub record ArePostEnds (posts : TaskPosts) (owner : ReceiverEnd Post) : Type 0 where
+pub record AreEndsOfPosts (posts : TaskPosts) (owner : ReceiverEnd MailedPost) : Type 0 where
   pub one_mail : posts.sender.place.table_id ≡ owner.place.table_id
   pub nothing_posted : (seen posts.sender.place ≡ []) × (seen owner.place ≡ [])
   pub nothing_reported : (reported posts.sender.place ≡ []) × (reported owner.place ≡ [])
@@ -56,7 +56,7 @@ pub record ArePostEnds (posts : TaskPosts) (owner : ReceiverEnd Post) : Type 0 w
 -- the two ends of a new seat of a task whose last sending begins with a serial: a first image was shown and seen, and nothing posted
 pub record AreEnds (history : History) (task first : ℕ) (owner : OwnerEnd) (end : TaskEnd) : Type 0 where
   pub images : BeginWith (looker_image history task first Open) owner.images end.images
-  pub posts : (posts : TaskPosts) × (end.posts ≡ Some posts) × ArePostEnds posts owner.posts
+  pub posts : (posts : TaskPosts) × (end.posts ≡ Some posts) × AreEndsOfPosts posts owner.posts
   pub refused : owner.is_refused ≡ false
 
 -- the two ends of a new seat that only looks at such a task
@@ -150,11 +150,11 @@ abbrev pub GivesNewest : TaskEnd → SeatView → List ℕ → List ℕ → List
 GivesNewest end view before after serials serials' = GivesImage (length (seen end.images.place)) (at_hand end) view before after serials serials'
 
 -- the post that a seat made last; a blank one before the first
-abbrev pub last_posted : TaskPosts → Post
+abbrev pub last_posted : TaskPosts → MailedPost
 last_posted posts = newest post_kind post_room (seen posts.sender.place)
 
 -- a post was made for an epoch from an image's task epoch on, with as many bytes as the image has output bytes
-abbrev pub fits_image : Image → Post → Bool
+abbrev pub fits_image : Image → MailedPost → Bool
 fits_image image post = nat_le image.head.task_epoch post.epoch && (length post.bytes == length image.outputs)
 
 -- the outputs to begin with, beside an image: those of the seat's own last post if that fits the image, else the image's
@@ -167,13 +167,13 @@ abbrev pub outputs_begun : TaskEnd → List ℕ
 outputs_begun end = outputs_beside (at_hand end) end.posts
 
 -- the line is open and the seat the present one
-abbrev pub is_open : LineState → Bool
-is_open Open = true
-is_open other = false
+abbrev pub is_open_line : LineState → Bool
+is_open_line Open = true
+is_open_line other = false
 
 -- the image's line is open, and the seat was not replaced
-abbrev pub is_current : Image → Bool
-is_current image = is_open image.head.line
+abbrev pub is_current_image : Image → Bool
+is_current_image image = is_open_line image.head.line
 
 -- what refuses outputs for an epoch beside an image, in order: 15 the epoch is below the task's or above the image's, 16 it has another number of output bytes
 abbrev pub seat_fault : Image → ℕ → List ℕ → Option CoreFault
@@ -182,7 +182,7 @@ seat_fault image epoch bytes =
 
 -- what a post beside an image is answered: 255 if the image says that the line is closed or the seat replaced, else 0, or what refuses it
 abbrev pub beside_number : Image → ℕ → List ℕ → ℕ
-beside_number image epoch bytes = if is_current image then refusal_number (seat_fault image epoch bytes) else CLOSED
+beside_number image epoch bytes = if is_current_image image then refusal_number (seat_fault image epoch bytes) else CLOSED
 
 -- what a post at a seat is answered: 254 if the seat only looks
 abbrev pub post_number : TaskEnd → ℕ → List ℕ → ℕ
@@ -190,7 +190,7 @@ post_number end epoch bytes = if is_some end.posts then beside_number (at_hand e
 
 -- outputs were posted for an epoch, with this number: the count of the seat's posts
 pub record PostsAt (epoch : ℕ) (bytes : List ℕ) (number : ℕ) (old new : TaskPosts) : Type 0 where
-  pub posted : seen new.sender.place ≡ seen old.sender.place ++ post_of epoch bytes post_room.0 ∷ []
+  pub posted : seen new.sender.place ≡ seen old.sender.place ++ mailed_post epoch bytes post_room.0 ∷ []
   pub numbered : number ≡ counted (length (seen new.sender.place))
   pub table : StaysAtTable old.sender.place new.sender.place
 

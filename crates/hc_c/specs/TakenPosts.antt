@@ -7,14 +7,14 @@ use Rattle.hc_events.specs.Steps.{PostsSteady, Step, answers_to, entries_after_a
 use Rattle.hc_core.specs.State.{CoreState}
 use Rattle.hc_mail.specs.Contents.{StartsWith, last_after}
 use Rattle.hc_mail.specs.Ends.{StaysAtTable, reported, seen}
-use Rattle.hc_mail.specs.Posts.{Post}
+use Rattle.hc_mail.specs.Posts.{MailedPost}
 use Rattle.hc_c.specs.declared.embedded.Embedded.{Embedded}
 use Rattle.hc_c.specs.declared.seat.ends.OwnerEnd.{OwnerEnd}
 use Rattle.hc_c.specs.declared.seat.taking.TakenPosts.{TakenPosts}
 
 -- a task's post, as an event
-abbrev pub event_of : ℕ → Post → Step
-event_of task post = PostsSteady task post.epoch post.bytes
+abbrev pub posting_of : ℕ → MailedPost → Step
+posting_of task post = PostsSteady task post.epoch post.bytes
 
 -- the post was accepted
 abbrev pub is_posted : Answer → Bool
@@ -26,17 +26,17 @@ abbrev pub is_refused : Answer → Bool
 is_refused given = not (is_posted given)
 
 -- the newest of some posts, none of none
-abbrev pub newest_alone : List Post → List Post
+abbrev pub newest_alone : List MailedPost → List MailedPost
 newest_alone [] = []
 newest_alone (first ∷ rest) = last_after first rest ∷ []
 
 -- whether the post that was taken last was refused, after these posts came and the newest of them was judged so
-abbrev pub refused_after : List Post → Bool → Bool → Bool
+abbrev pub refused_after : List MailedPost → Bool → Bool → Bool
 refused_after [] before judged = before
 refused_after (first ∷ rest) before judged = judged
 
 -- these posts came out of a seat's mailbox since the owner looked before: all that a note named are among those that it saw; the last one's fate is kept, and what the seat is shown is as it was
-pub record ComeOut (old new : OwnerEnd) (posts : List Post) (refused : Bool) : Type 0 where
+pub record ComeOut (old new : OwnerEnd) (posts : List MailedPost) (refused : Bool) : Type 0 where
   pub came : seen new.posts.place ≡ seen old.posts.place ++ posts
   pub noted : StartsWith (seen new.posts.place) (reported old.posts.place)
   pub table : StaysAtTable old.posts.place new.posts.place
@@ -44,14 +44,14 @@ pub record ComeOut (old new : OwnerEnd) (posts : List Post) (refused : Bool) : T
   pub images : new.images ≡ old.images
 
 -- these posts of a task became events of the core, in order: whether one of them was accepted, and whether one was refused
-pub record AreJudged (task : ℕ) (before after : CoreState) (posts : List Post) (accepted refused : Bool) : Type 0 where
-  pub core : after ≡ record before { history = entries_after_all before.history (map (event_of task) posts) }
-  pub any_accepted : accepted ≡ list_any is_posted (answers_to before.history (map (event_of task) posts))
-  pub any_refused : refused ≡ list_any is_refused (answers_to before.history (map (event_of task) posts))
+pub record AreJudged (task : ℕ) (before after : CoreState) (posts : List MailedPost) (accepted refused : Bool) : Type 0 where
+  pub core : after ≡ record before { history = entries_after_all before.history (map (posting_of task) posts) }
+  pub any_accepted : accepted ≡ list_any is_posted (answers_to before.history (map (posting_of task) posts))
+  pub any_refused : refused ≡ list_any is_refused (answers_to before.history (map (posting_of task) posts))
 
 -- the newest post of a task's seat that was not taken, if there is one, was taken and judged
 abbrev pub TakesFrom : ℕ → CoreState → CoreState → OwnerEnd → OwnerEnd → Bool × Bool → Type 0
-TakesFrom task before after old new given = (posts : List Post) × ComeOut old new posts given.1 × AreJudged task before after (newest_alone posts) given.0 given.1
+TakesFrom task before after old new given = (posts : List MailedPost) × ComeOut old new posts given.1 × AreJudged task before after (newest_alone posts) given.0 given.1
 
 -- so it was with a task's seat, if it has one
 abbrev pub TakesEnd : ℕ → CoreState → CoreState → Option OwnerEnd → Option OwnerEnd → Bool × Bool → Type 0

@@ -3,15 +3,15 @@ use Rattle.std.specs.Prelude.{ℕ, List, []}
 use Rattle.hc_mail.specs.Contents.{Kind, Room}
 
 -- the outputs that a task posts for an epoch, and the most bytes that there is room for
-pub record Post : Type 0 where
+pub record MailedPost : Type 0 where
   pub epoch : ℕ
   pub bytes : List ℕ
   pub room : ℕ
 
 -- a post of these outputs for an epoch
-abbrev pub post_of : ℕ → List ℕ → ℕ → Post
-post_of epoch bytes room = record { epoch = epoch; bytes = bytes; room = room }
+abbrev pub mailed_post : ℕ → List ℕ → ℕ → MailedPost
+mailed_post epoch bytes room = record { epoch = epoch; bytes = bytes; room = room }
 
 -- posts as contents of a mailbox: they have no datagram
-abbrev pub post_kind : Kind Post
-post_kind = record { room = λ post. (post.room, 0); blank = λ room. post_of 0 [] room.0 }
+abbrev pub post_kind : Kind MailedPost
+post_kind = record { room = λ post. (post.room, 0); blank = λ room. mailed_post 0 [] room.0 }

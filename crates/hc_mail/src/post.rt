@@ -1,6 +1,6 @@
 //! The post of a task, as a mailbox carries it.
 ghost use Rattle.std.specs.Prelude.{◌≡◌, ◌≤◌, IfOk, length};
-ghost use Rattle.hc_mail.specs.Posts.{post_of};
+ghost use Rattle.hc_mail.specs.Posts.{mailed_post};
 
 use crate::content::Content;
 use crate::image::put;
@@ -18,9 +18,9 @@ pub struct TaskPost {
 
 impl Model for TaskPost {
     ghost use Rattle.std.specs.Prelude.{◌≤◌, length, take};
-    ghost use Rattle.hc_mail.specs.Posts.{Post};
+    ghost use Rattle.hc_mail.specs.Posts.{MailedPost};
 
-    ghost Value = { Post };
+    ghost Value = { MailedPost };
 
     ghost view = { λ post. record { epoch = post.epoch; bytes = take post.size post.memory.items; room = length post.memory.items } };
 
@@ -46,7 +46,7 @@ impl TaskPost {
     /// The post becomes one of these outputs for an epoch. It has room for them.
     pub fn write(&mut self, epoch: u32, bytes: &[u8])
         requires { length bytes.now ≤ self.old.room }
-        ensures { self.new ≡ post_of epoch bytes.now self.old.room }
+        ensures { self.new ≡ mailed_post epoch bytes.now self.old.room }
     {
         put(&mut self.memory, 0, bytes);
         self.epoch = epoch;

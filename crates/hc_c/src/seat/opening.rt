@@ -2,9 +2,9 @@
 ghost use Rattle.std.specs.Prelude.{◌≡◌, ◌≢◌, ◌<◌, IfOk, IfSome, IsSome, None};
 ghost use Rattle.hc_records.specs.declared.limits.TheConstants.{TASKS};
 ghost use Rattle.hc_c.specs.Handles.{HoldsAsBefore, IfServed, no_line_number};
-ghost use Rattle.hc_c.specs.SeatImages.{head_of, image_shown};
+ghost use Rattle.hc_c.specs.SeatImages.{head_shown, image_shown};
 ghost use Rattle.hc_c.specs.SeatRoom.{image_room};
-ghost use Rattle.hc_c.specs.Seats.{AnswersOpening, AreEnds, ArePostEnds, BeginWith, OpensLineSeat, SeatAsBefore};
+ghost use Rattle.hc_c.specs.Seats.{AnswersOpening, AreEnds, AreEndsOfPosts, BeginWith, OpensLineSeat, SeatAsBefore};
 ghost use Rattle.hc_mail.specs.declared.image.LineState.TheVariants.{Open};
 
 use crate::embedded::Embedded;
@@ -48,7 +48,7 @@ pub fn open_images(
 
 /// What a task posts by, and the owner's end for it. `AllocError` if an allocation fails.
 fn open_posts(alloc: Global) -> Result<(TaskPosts, Receiver<TaskPost>), AllocError>
-    ensures { IfOk result (λ ends. ArePostEnds ends.0 ends.1) }
+    ensures { IfOk result (λ ends. AreEndsOfPosts ends.0 ends.1) }
 {
     let (sender, receiver) = open(alloc, LARGEST_IMAGE, 0)?;
     let last = TaskPost::blank(alloc, LARGEST_IMAGE, 0)?;

@@ -2,7 +2,7 @@
 ghost use Rattle.std.specs.Prelude.{◌≡◌, ◌≢◌, ◌≤◌, IfSome, None, is_some, length};
 ghost use Rattle.hc_c.specs.Handles.{no_line_number};
 ghost use Rattle.hc_c.specs.SeatRoom.{image_room, post_room};
-ghost use Rattle.hc_c.specs.Seats.{Posts, PostsAt, SeatAsBefore, is_current, post_number, seat_fault};
+ghost use Rattle.hc_c.specs.Seats.{Posts, PostsAt, SeatAsBefore, is_current_image, post_number, seat_fault};
 
 use crate::numbers::{CLOSED, DONE, MISUSED};
 use crate::seat::ends::{TaskEnd, TaskPosts};
@@ -38,7 +38,7 @@ fn post_bytes(posts: &mut TaskPosts, epoch: u32, bytes: &[u8]) -> u64
 
 /// Whether an image says that the line is open and the seat the present one.
 fn is_current(image: &TaskImage) -> bool
-    ensures { result ≡ is_current image.now }
+    ensures { result ≡ is_current_image image.now }
 {
     match image.head().line {
         LineState::Open => true,

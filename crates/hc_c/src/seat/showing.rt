@@ -9,7 +9,7 @@ ghost use Rattle.hc_c.specs.Handles.{HoldsAsBefore, no_line_number};
 ghost use Rattle.hc_c.specs.Pieces.{HaveLengths};
 ghost use Rattle.hc_c.specs.Reads.{image_size};
 ghost use Rattle.hc_c.specs.SeatEnds.{has_seat_from};
-ghost use Rattle.hc_c.specs.SeatImages.{SendsImage, Shows, ShowsAll, ShowsEnds, ShowsLooker, ShowsLookers, head_of, image_shown, sent_from, with_slot, with_slots};
+ghost use Rattle.hc_c.specs.SeatImages.{SendsImage, Shows, ShowsAll, ShowsEnds, ShowsLooker, ShowsLookers, head_shown, image_shown, sent_from, with_slot, with_slots};
 ghost use Rattle.hc_c.specs.SeatRoom.{image_room};
 ghost use Rattle.hc_c.specs.Seats.{ShowsLine};
 ghost use Rattle.hc_c.specs.declared.numbers.TheConstants.{BUSY};
@@ -111,7 +111,7 @@ pub fn head_of(
     line: LineState,
 ) -> ImageHead
     requires { task < TASKS }
-    ensures { result ≡ head_of core.now.history task first taken is_refused line }
+    ensures { result ≡ head_shown core.now.history task first taken is_refused line }
 {
     let plan = core.plan();
     ImageHead {

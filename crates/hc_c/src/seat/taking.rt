@@ -4,7 +4,7 @@ ghost use Rattle.hc_records.specs.declared.limits.TheConstants.{TASKS};
 ghost use Rattle.hc_events.specs.Steps.{answer_to, entries_after};
 ghost use Rattle.hc_c.specs.Handles.{HoldsAsBefore, no_line_number};
 ghost use Rattle.hc_c.specs.SeatEnds.{has_seat_from};
-ghost use Rattle.hc_c.specs.TakenPosts.{TakesAll, TakesEnd, TakesFrom, TakesPosts, event_of, is_posted};
+ghost use Rattle.hc_c.specs.TakenPosts.{TakesAll, TakesEnd, TakesFrom, TakesPosts, posting_of, is_posted};
 ghost use Rattle.hc_c.specs.declared.numbers.TheConstants.{BUSY};
 
 use crate::handle::Handle;
@@ -28,8 +28,8 @@ pub struct TakenPosts {
 
 /// Hands the core a task's post, and returns whether it was accepted.
 fn is_accepted(core: &mut Core, task: u8, post: &TaskPost) -> bool
-    ensures core { core.new ≡ record core.old { history = entries_after core.old.history (event_of task post.now) } }
-    ensures answer { is_posted (answer_to core.old.history (event_of task post.now)) ≡ result }
+    ensures core { core.new ≡ record core.old { history = entries_after core.old.history (posting_of task post.now) } }
+    ensures answer { is_posted (answer_to core.old.history (posting_of task post.now)) ≡ result }
 {
     match core.post_steady(task, post.epoch(), post.bytes()) {
         Ok(()) => true,

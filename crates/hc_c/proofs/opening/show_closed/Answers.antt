@@ -1,5 +1,5 @@
 use Rattle.hc_mail.specs.declared.image.LineState.TheVariants.{Closed}
-use Rattle.hc_c.proofs.Told.{each-told}
+use Rattle.hc_c.proofs.LastImages.{each-told}
 use Rattle.hc_c.proofs.opening.show_closed.Goals as goal
 
 pub returns : goal.returns

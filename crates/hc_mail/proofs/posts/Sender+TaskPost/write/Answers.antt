@@ -1,5 +1,5 @@
 use Rattle.std.proofs.Common.{rules, ap, sym, ◌∙◌, subst, length, ◌≤◌}
-use Rattle.hc_mail.specs.Posts.{Post, post_kind, post_of}
+use Rattle.hc_mail.specs.Posts.{MailedPost, post_kind, mailed_post}
 use Rattle.hc_mail.specs.Ends.{SenderEnd}
 use Rattle.hc_mail.specs.Rule.{in_hand}
 use Rattle.hc_mail.proofs.Moves.{has_slot}
@@ -11,8 +11,8 @@ slot_mut-requires c = (search rules, (in_hand post_kind c.self.inside.seat.me.1,
 
 pub write-requires : goal.write-requires
 write-requires c =
-    let was = c.content_mut-post.ensures.content ∙ (sym (ap (λ hand. (in_hand post_kind hand).content) c.slot_mut.ensures.value) ∙ ap (λ (end : SenderEnd Post). end.own) c.self.view_is) in
-    subst (λ (post : Post). length c.args.bytes.now ≤ post.room) (sym was) c.requires
+    let was = c.content_mut-post.ensures.content ∙ (sym (ap (λ hand. (in_hand post_kind hand).content) c.slot_mut.ensures.value) ∙ ap (λ (end : SenderEnd MailedPost). end.own) c.self.view_is) in
+    subst (λ (post : MailedPost). length c.args.bytes.now ≤ post.room) (sym was) c.requires
 
 pub invariant_of-self : goal.invariant_of-self
 invariant_of-self c =
@@ -21,8 +21,8 @@ invariant_of-self c =
 
 pub returns-clause-own : goal.returns-clause-own
 returns-clause-own c =
-    let was = c.content_mut-post.ensures.content ∙ (sym (ap (λ hand. (in_hand post_kind hand).content) c.slot_mut.ensures.value) ∙ ap (λ (end : SenderEnd Post). end.own) c.self.view_is) in
-    c.write.ensures ∙ ap (λ (content : Post). post_of c.args.epoch c.args.bytes.now content.room) was
+    let was = c.content_mut-post.ensures.content ∙ (sym (ap (λ hand. (in_hand post_kind hand).content) c.slot_mut.ensures.value) ∙ ap (λ (end : SenderEnd MailedPost). end.own) c.self.view_is) in
+    c.write.ensures ∙ ap (λ (content : MailedPost). mailed_post c.args.epoch c.args.bytes.now content.room) was
 
 pub returns-clause-unchanged : goal.returns-clause-unchanged
-returns-clause-unchanged c = ap (λ (end : SenderEnd Post). end.place) c.self.view_is
+returns-clause-unchanged c = ap (λ (end : SenderEnd MailedPost). end.place) c.self.view_is
