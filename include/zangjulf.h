@@ -49,7 +49,7 @@
  *
  *   - a handle that was never set to zeros, and whose memory happens to hold the mark of an open one;
  *   - a copy of a handle, used after the other one was closed; a handle that is written by hand;
- *   - `zangjulf_open` or `zangjulf_close` of a line while another call with the same handle runs or begins;
+ *   - a call that begins while `zangjulf_open` or `zangjulf_close` of the same handle runs, in another thread;
  *   - two calls at once with one seat;
  *   - a slice that is not memory of yours, or NULL with a length; slices, structs and handles of one call that overlap;
  *   - a NULL pointer to a handle, a struct or a number.

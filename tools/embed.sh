@@ -1,8 +1,8 @@
 #!/bin/sh
 # Builds the library, its header and its bindings, and calls it from C, with the address and the undefined behaviour
 # sanitizer, from C++, Rust and Python: players play examples/*.in, and what they print is compared with *.out, byte for byte.
-# The C callers also try what a caller may do wrong, each growth of memory refused in turn, seats that are closed in every order and
-# ten million images that are shown at full speed, and two million drawn calls. The cycle of docs/use/EMBEDDING.md and the examples
+# The C callers also try what a caller may do wrong, each growth of memory refused in turn, seats that are closed in every order, ten
+# million images that are shown at full speed, a monitor that is preempted inside a view, and two million drawn calls. The cycle of docs/use/EMBEDDING.md and the examples
 # in the pages of the Rust crate are run. A session of tools/line keeps its line in the library, and tools/capture simulates lines
 # with its slaves. What drawn calls are answered is compared, byte for byte, with what the program hotline prints of the same
 # commands; the comparison is shown wrong programs, wrong libraries and wrong models, and must find each. The library is installed
