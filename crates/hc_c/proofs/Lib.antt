@@ -17,7 +17,6 @@ mod Rooms
 mod SeatEnds
 mod Showing
 mod SteadySlots
-mod Taken
 mod TakenBits
 mod Takings
 mod LastImages
