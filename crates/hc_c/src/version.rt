@@ -3,13 +3,13 @@ ghost use Rattle.std.specs.Prelude.{◌≡◌};
 ghost use Rattle.hc_c.specs.declared.version.TheConstants.{ABI, MAJOR, MINOR, PATCH};
 
 /// The number of the binary interface: it grows with each release where a call or a struct is another one, or gone.
-pub const ABI: u32 = 0;
+pub const ABI: u32 = 1;
 
 /// The first number of the version.
 pub const MAJOR: u32 = 0;
 
 /// The second number of the version.
-pub const MINOR: u32 = 1;
+pub const MINOR: u32 = 2;
 
 /// The third number of the version.
 pub const PATCH: u32 = 0;
