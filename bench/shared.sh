@@ -21,21 +21,24 @@ take() {
     done
 }
 
-# share FOLDER NAME..: takes modules of bench/shared over into a bench's own crate. They end in .rt there alone, since the gate
-# refuses a .rt file outside a crate.
-share() {
-    own=$1
-    shift
-    mkdir -p "$own/src"
-    for name in "$@"; do
-        cp "$top/bench/shared/$name.rattle" "$own/src/$name.rt"
+# crate LINE FOLDER: makes the bench's own crate, $own, of a folder with src/, specs/ and proofs/. The line is that of crates.txt.
+# Rattle code ends in .rattle here, since the gate refuses other endings outside a crate.
+crate() {
+    own=$scratch/crates/${1%%[: ]*}
+    echo "$1" >> "$scratch/crates.txt"
+    for below in ${1#*:}; do
+        take "$below"
+    done
+    mkdir "$own"
+    (cd "$2" && find . -name '*.rattle') | while read -r file; do
+        case $file in ./src/*) end=.rt ;; *) end=.antt ;; esac
+        mkdir -p "$own/$(dirname "$file")"
+        cp "$2/$file" "$own/${file%.rattle}$end"
     done
 }
 
-# build FOLDER COMMAND..: builds a bench's own crate; where that fails, it prints what was said and ends.
+# build COMMAND..: builds the bench's own crate; if that fails, it prints what was said and ends.
 build() {
-    own=$1
-    shift
     (cd "$own" && "$@" < /dev/null) > "$scratch/said" 2>&1 || {
         cat "$scratch/said"
         exit 1
@@ -45,4 +48,26 @@ build() {
 # plain WORD..: builds plain Rust for x86-64-v2, as what is proved is built.
 plain() {
     rustc --edition 2024 -O -C target-cpu=x86-64-v2 "$@"
+}
+
+# measure: proves the library of the benches, links main.rs to it, counts the instructions of what it measures, and runs it.
+# callgrind ends a part of its counts where the clock is read; the totals of the parts come through a pipe, since the parts are
+# gigabytes.
+measure() {
+    crate 'library_bench staticlib: hc_records hc_project hc_registers hc_bits hc_places hc_frames hc_plan hc_events hc_core hc_segment libc' \
+        "$top/bench/library"
+    build rt lib
+    plain "$here/main.rs" -o "$scratch/bench" -L "$own/out" -l static=library_bench -C link-arg="$kit/c/liblibc_c.a"
+    mkfifo "$scratch/parts"
+    sed -n 's/^totals: //p' < "$scratch/parts" > "$scratch/counts" &
+    exec 3> "$scratch/parts"
+    valgrind --tool=callgrind --combine-dumps=yes --dump-before='*clock_gettime*' \
+        --callgrind-out-file="$scratch/parts" "$scratch/bench" --count > "$scratch/said" 2>&1 || {
+        cat "$scratch/said"
+        exit 1
+    }
+    exec 3>&-
+    wait
+    COUNTS="$scratch/counts" "$scratch/bench"
+    echo "measured at $(git -C "$top" rev-parse --short HEAD)"
 }

@@ -17,7 +17,7 @@
  *   ZANGJULF_BUSY     another call with the same line runs; nothing was done, and the call may be made again
  *
  * The lists of answers with the calls are in the order in which they are judged: if two hold, the first one is returned. Answers 1
- * to 36 are the faults of edits and events. ZANGJULF_PROJECT_.. are 200 plus the fault of a project's text.
+ * to 37 are the faults of edits and events. ZANGJULF_PROJECT_.. are 200 plus the fault of a project's text.
  *
  * REFUSALS. A refused call has changed nothing, and has written nothing to its slices, structs and numbers. Exceptions, by answer:
  *
@@ -27,7 +27,7 @@
  *   _move_area                                TOO_MANY_DATAGRAMS: `cost->crowded`
  *   zangjulf_send                             WAITS: `sent->waits`; ROOM: `sent->size`
  *   zangjulf_next_write                       ROOM: `write->size`
- *   zangjulf_next_writes                      ROOM: `writes->size`
+ *   zangjulf_next_writes, _further_writes     ROOM: `writes->size`
  *   zangjulf_block                            ROOM: `block->size`
  *   zangjulf_preview, _alias_read,
  *   _station_write, _fmmu_off                 ROOM: `*size`
@@ -37,8 +37,9 @@
  * (tested, not proved); no other pointer may. No pointer is kept after the call. Reserved fields are written as zeros.
  *
  * MEMORY comes from malloc and realloc, and goes back by free. Only `zangjulf_open`, `zangjulf_seat_open`, `zangjulf_look_open`,
- * `zangjulf_locate` and the five edits allocate. With too little memory they can return ZANGJULF_MEMORY in place of another answer.
- * Exception: of an edit UNKNOWN_ALIAS to AREA_TOO_BIG, 1 to 11, are returned whatever memory does.
+ * `zangjulf_locate`, `zangjulf_further_writes` and the five edits allocate. With too little memory they can return ZANGJULF_MEMORY in
+ * place of another answer. Exceptions, returned whatever memory does: of an edit UNKNOWN_ALIAS to AREA_TOO_BIG, 1 to 11; of
+ * `zangjulf_further_writes` every refusal.
  *
  * THREADS. A line belongs to one thread at a time, its owner. A call that meets another one with the same line returns
  * ZANGJULF_BUSY. Task threads and monitors use seats, which never make the owner wait or return ZANGJULF_BUSY to it. A seat belongs
@@ -117,6 +118,7 @@ extern "C" {
     ANSWER(TOO_MANY_GROUPS, 34, "more than 512 groups would be declared, the mandatory one counted") \
     ANSWER(TOO_MANY_SLAVES, 35, "more than 2,048 slaves would be declared") \
     ANSWER(WAITS, 36, "a task waits: owed register blocks concern it, or a slave outside the line may map it") \
+    ANSWER(UNDER_WAY, 37, "every owed register block is under way") \
     ANSWER(NOTHING, 100, "there is no such variable, datagram, slave or block") \
     ANSWER(IS_INPUT, 105, "the variable is an input: it takes no value") \
     ANSWER(TOO_WIDE, 106, "the value needs more bits than there are") \
@@ -387,7 +389,7 @@ ZANGJULF_CHECKED uint8_t zangjulf_move_area(struct zangjulf *handle, uint16_t st
 ZANGJULF_CHECKED uint8_t zangjulf_declare(struct zangjulf *handle, const uint8_t *text, size_t length, bool asks,
                                           struct zangjulf_cost *cost);
 
-/* ------ Register blocks. None of these calls allocates. ------
+/* ------ Register blocks. Only `zangjulf_further_writes` allocates. ------
  *
  * A register block is owed until a write of it is answered with counter 1. Owed blocks hold up the tasks that they concern. */
 
@@ -421,9 +423,24 @@ struct zangjulf_writes {
 
 /* Sends the first owed register blocks in one frame, in the order of writing, as many as a frame holds. The frame is at the front of
  * `out`. Hand in what comes back by `zangjulf_arrive`. The next call sends blocks that are still owed again; then an answer to the
- * earlier frame confirms none of them. So wait for a frame of register writes longer than a round trip takes.
- * Answers: DONE; NOTHING_OWED; SERIALS_SPENT; ROOM, with the bytes needed in `writes->size`. */
+ * earlier frame confirms none of them. So wait for a frame of register writes longer than a round trip takes, and send what else is owed
+ * by `zangjulf_further_writes`. Answers: DONE; NOTHING_OWED; SERIALS_SPENT; ROOM, with the bytes needed in `writes->size`. */
 ZANGJULF_CHECKED uint8_t zangjulf_next_writes(struct zangjulf *handle, uint8_t *out, size_t length, struct zangjulf_writes *writes);
+
+/* Sends further owed register blocks in one frame: the first ones that are not under way, in the order of writing, as many as a frame
+ * holds. A block is under way as long as the answer to its last write may still come: no edit was accepted since, its slave was not
+ * lost or cleared, and the frame did not come back. So several frames can be under way, and each answer counts for its own blocks.
+ * Exception: once a slave was lost or cleared, the next frame of register writes of any call takes the place of all earlier ones.
+ * If a frame does not come back in time, `zangjulf_next_writes` sends its blocks again. Room for two such frames under way is made by
+ * `zangjulf_open`; only a third one, and each more than ever before, allocates.
+ *
+ *   NOTHING_OWED   no register block is owed
+ *   UNDER_WAY      each owed block is under way
+ *   SERIALS_SPENT
+ *   ROOM           `out` is too short; the bytes needed are in `writes->size`
+ *   MEMORY */
+ZANGJULF_CHECKED uint8_t zangjulf_further_writes(struct zangjulf *handle, uint8_t *out, size_t length,
+                                                 struct zangjulf_writes *writes);
 
 /* A slave of the line may have lost its registers, as one that was switched off and on: each of its blocks is owed again. Epoch, posts,
  * data and frames of tasks under way stay. A write that was sent to the slave before confirms nothing any more.

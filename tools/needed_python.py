@@ -1,4 +1,5 @@
-"""Ends the run of a tool, with one line, on a Python older than the tools need. It runs on each of these."""
+"""Ends the run of a tool, with one line, on a Python older than the tools need, and names the folder of the tools' packages. It runs
+on each of these."""
 
 import os
 import sys
@@ -10,3 +11,5 @@ if sys.version_info[:2] < NEEDED:
     found = tuple(sys.version_info[:2])
     sys.stderr.write("%s: needs Python %d.%d or later; this is %d.%d\n" % ((tool,) + NEEDED + found))
     sys.exit(2)
+
+sys.path.insert(1, os.path.join(os.path.dirname(os.path.abspath(__file__)), "packages"))

@@ -11,7 +11,7 @@ trap 'rm -rf "$scratch"' EXIT
 mkdir "$scratch/cases"
 
 # Each case is a script and what the program must print for it.
-for output in examples/*.out tools/*.out compare/played/*.out; do
+for output in examples/*.out ci/scripts/*.out compare/played/*.out; do
     name=$(echo "${output%.out}" | tr / -)
     cp "${output%.out}.in" "$scratch/cases/$name"
     cp "$output" "$scratch/cases/$name.stdout"

@@ -1,20 +1,29 @@
 #!/bin/sh
-# Times a cycle through the library for C beside plain C with the same duties and beside a bare loop, in one process, and counts
-# their instructions where valgrind is: the difference of 12,000 cycles and 2,000. The library is built first.
+# Counts the instructions of a cycle through the library for C beside plain C with the same duties, line by line, the wire taken
+# off, and times both. The library is built first, unless LIBRARY is a folder that has it. Counting needs valgrind.
 set -eu
 here=$(cd "$(dirname "$0")" && pwd)
 top=$(cd "$here/../.." && pwd)
+library=${LIBRARY:-$top/build}
 scratch=$(mktemp -d)
 trap 'rm -rf "$scratch"' EXIT
-"$top/tools/library.sh" > "$scratch/lib.txt" 2>&1 || { cat "$scratch/lib.txt"; exit 1; }
+[ -n "${LIBRARY:-}" ] || "$top/packaging/library.sh" > "$scratch/lib.txt" 2>&1 || { cat "$scratch/lib.txt"; exit 1; }
 # The library is made for x86-64-v2, so the program beside it is too.
-gcc -std=c11 -D_POSIX_C_SOURCE=200809L -O2 -march=x86-64-v2 -Wall -Wextra -Wpedantic -Werror -I"$top/include" "$here"/*.c "$top/build/libzangjulf.a" -o "$scratch/cycle"
-"$scratch/cycle"
-command -v valgrind > /dev/null || exit 0
-# instructions SIDE CYCLES
-instructions() {
-    valgrind --tool=callgrind --callgrind-out-file=/dev/null "$scratch/cycle" count "$1" "$2" 2>&1 | sed -n 's/.*Collected : //p'
+gcc -std=c11 -O2 -march=x86-64-v2 -Wall -Wextra -Wpedantic -Werror -I"$top/include" "$here"/*.c "$library/libzangjulf.a" -o "$scratch/cycle"
+"$scratch/cycle" > "$scratch/times"
+# counted SIDE LINE CYCLES: the instructions of a run
+counted() {
+    valgrind --tool=callgrind --callgrind-out-file=/dev/null "$scratch/cycle" count "$1" "$2" "$3" 2>&1 | sed -n 's/.*Collected : //p'
 }
-for side in library plain bare; do
-    printf '%s: %d instructions a cycle\n' "$side" $((($(instructions $side 12000) - $(instructions $side 2000)) / 10000))
-done
+# instructions SIDE LINE: those of a cycle, the difference of two runs
+instructions() { echo $((($(counted "$1" "$2" 300) - $(counted "$1" "$2" 100)) / 200)); }
+echo '| Line | Library | Plain C | Ratio | Ratio of times |'
+echo '|---|---|---|---|---|'
+line=0
+while IFS='	' read -r name times; do
+    wire=$(instructions wire $line)
+    own=$(($(instructions library $line) - wire)) plain=$(($(instructions plain $line) - wire))
+    echo "$name	$own	$plain	$times" | awk -F '\t' '{ printf "| %s | %d | %d | %.2f | %s |\n", $1, $2, $3, $2 / $3, $4 }'
+    line=$((line + 1))
+done < "$scratch/times"
+echo "measured at $(git -C "$top" rev-parse --short HEAD)"

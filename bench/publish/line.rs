@@ -1,41 +1,15 @@
-//! The line of the benchmark, with 64 or 2,048 slaves of eight areas each, and what is asked of it. Task 0 has one datagram
+//! The line of the bench, with 64 or 2,048 slaves of eight areas each, and what is asked of it. Task 0 has one datagram
 //! of 12 bytes, task 1 one of 1,486; task 2 has an area that can be made a byte wider, and 1,000 variables after it;
 //! task 3 has a variable that can change places with a gap. A group of one slave, which isn't present at the opening, has
 //! 1,000 variables of one bit.
 
-use crate::plan::asked::{Asked as EditAsked, CONNECT, DISCONNECT, REMAP};
-use crate::plan::plain::Group;
-use crate::plan::plain::layout::{Area, Pdo, Slave, new_pdo};
+use crate::plain::layout::{Area, Pdo, Slave, new_pdo};
+use crate::plain::plan::{Edit, Group};
 
 const FIRST: u16 = 0x1600;
 const SECOND: u16 = 0x1601;
 /// The group that comes and goes.
 const GUEST: u16 = 7;
-
-/// What is asked: an edit, or a good answer of a task's first datagram, with one byte again and again.
-#[derive(Clone, Copy)]
-pub enum Asked {
-    Edit(EditAsked),
-    Answer { task: u8, byte: u8 },
-}
-
-impl Asked {
-    /// The row of numbers that the proved program reads.
-    pub fn row(&self) -> String {
-        match self {
-            Asked::Edit(EditAsked { kind, area, name, first, second, task, count }) => {
-                let [first, second] = match (*kind == REMAP, count) {
-                    (false, _) => [u16::from(*task), 0],
-                    (true, 0) => [0, 0],
-                    (true, 1) => [*first, 0],
-                    (true, _) => [*first, *second],
-                };
-                format!("{kind} {name} {area} {first} {second}\n")
-            }
-            Asked::Answer { task, byte } => format!("4 {task} 0 {byte} 0\n"),
-        }
-    }
-}
 
 /// How many of so many things the one with a number has, where they are shared evenly.
 fn share(things: usize, count: usize, number: usize) -> usize {
@@ -111,31 +85,13 @@ pub fn line(slaves: usize) -> Vec<Group> {
     vec![Group { alias: 0, slaves: own }, Group { alias: GUEST, slaves: vec![maker.guest()] }]
 }
 
-/// The variables of a task in the line.
-pub fn variables(groups: &[Group], task: u8) -> Vec<u32> {
-    let areas = groups[0].slaves.iter().flat_map(|slave| &slave.areas).filter(|area| area.task == task);
-    let mut variables = Vec::new();
-    areas.for_each(|area| area.each_variable(|variable, _| variables.push(variable)));
-    variables
-}
-
-fn remap(place: u16, area: u8, pdos: &[u16]) -> Asked {
-    let second = pdos.get(1).copied().unwrap_or(0);
-    let (kind, name, count, first) = (REMAP, 1001 + place, pdos.len() as u8, pdos[0]);
-    Asked::Edit(EditAsked { kind, name, area, count, first, second, ..EditAsked::default() })
-}
-
-/// A variable changes places with a gap, and back.
-pub fn one_row() -> [Asked; 2] {
-    [remap(1, 3, &[SECOND, FIRST]), remap(1, 3, &[FIRST, SECOND])]
-}
-
-/// 1,000 variables move by a byte, and back.
-pub fn thousand_rows() -> [Asked; 2] {
-    [remap(0, 2, &[FIRST, SECOND]), remap(0, 2, &[FIRST])]
-}
-
-/// 1,000 variables come, and go.
-pub fn guest() -> [Asked; 2] {
-    [CONNECT, DISCONNECT].map(|kind| Asked::Edit(EditAsked { kind, name: GUEST, ..EditAsked::default() }))
+/// What a case publishes, if it is no good answer: a variable changes places with a gap and back; 1,000 variables move by a
+/// byte and back, or come and go.
+pub fn edits(case: u32) -> Vec<Edit> {
+    let remap = |station, area, pdos: &[u16]| Edit::Remap { station, area, pdos: pdos.to_vec() };
+    match case {
+        2 => vec![remap(1002, 3, &[SECOND, FIRST]), remap(1002, 3, &[FIRST, SECOND])],
+        3 => vec![remap(1001, 2, &[FIRST, SECOND]), remap(1001, 2, &[FIRST])],
+        _ => vec![Edit::Connect(GUEST), Edit::Disconnect(GUEST)],
+    }
 }

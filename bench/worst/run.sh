@@ -9,7 +9,7 @@ library=${LIBRARY:-$top/build}
 states=${STATES:-10000}
 scratch=$(mktemp -d)
 trap 'rm -rf "$scratch"' EXIT
-[ -n "${LIBRARY:-}" ] || "$top/tools/library.sh" > "$scratch/lib.txt" 2>&1 || { cat "$scratch/lib.txt"; exit 1; }
+[ -n "${LIBRARY:-}" ] || "$top/packaging/library.sh" > "$scratch/lib.txt" 2>&1 || { cat "$scratch/lib.txt"; exit 1; }
 # The library is made for x86-64-v2, so the program beside it is too.
 for name in main room; do
     gcc -std=c11 -D_POSIX_C_SOURCE=200809L -O2 -march=x86-64-v2 -Wall -Wextra -Wpedantic -Werror -I"$top/include" "$here/$name.c" \

@@ -48,7 +48,7 @@ def shared_object():
     named = os.environ.get("ZANGJULF_LIBRARY")
     place = Path(named) if named else TOP / "build/libzangjulf.so"
     if not place.exists():
-        sys.exit(f"zangjulf: {place} is missing: run tools/library.sh first, which builds build/libzangjulf.so.")
+        sys.exit(f"zangjulf: {place} is missing: run packaging/library.sh first, which builds build/libzangjulf.so.")
     return place
 
 

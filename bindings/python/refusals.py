@@ -1,5 +1,5 @@
 """What the package refuses, and how it names it: python3 refusals.py PROJECT [LAYOUT]. It ends with an error at the first that is
-another. LAYOUT is what tools/embed/layout.c prints of the header's structs; the package's are compared with them."""
+another. LAYOUT is what ci/embed/layout.c prints of the header's structs; the package's are compared with them."""
 
 import copy
 import ctypes
@@ -159,6 +159,7 @@ def tasks_wait(text):
         raises(zangjulf.UnknownStation, line.unplugged, 1)
         raises(zangjulf.UnknownStation, line.cleared, 1)
         line.next_writes()
+        raises(zangjulf.UnderWay, line.further_writes)
         line.disconnect(100)
         line.write_all(pass_frame)
         assert line.ready == [0, 2, 3, 4, 5, 6, 7] and line.held_by(1) == [2001]

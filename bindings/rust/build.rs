@@ -1,12 +1,12 @@
 //! Finds libzangjulf.a: in the folder that ZANGJULF_LIB_DIR names, where pkg-config finds an installed one, or in the repository's
-//! build folder, where tools/library.sh leaves it.
+//! build folder, where packaging/library.sh leaves it.
 use std::env;
 use std::path::PathBuf;
 use std::process::Command;
 
 const ARCHIVE: &str = "libzangjulf.a";
 
-/// The folder of an installed library (tools/install.sh), if pkg-config finds one.
+/// The folder of an installed library (packaging/install.sh), if pkg-config finds one.
 fn installed() -> Option<PathBuf> {
     let found = Command::new("pkg-config").args(["--variable=libdir", "zangjulf"]).output().ok()?;
     let folder = String::from_utf8(found.stdout).ok()?;
@@ -21,7 +21,7 @@ fn main() {
     let named = env::var_os("ZANGJULF_LIB_DIR").map(PathBuf::from);
     let folders = [named, installed(), Some(built)];
     let Some(folder) = folders.into_iter().flatten().find(|folder| folder.join(ARCHIVE).exists()) else {
-        panic!("{ARCHIVE} isn't found: name its folder in ZANGJULF_LIB_DIR, install it below PKG_CONFIG_PATH, or run tools/library.sh");
+        panic!("{ARCHIVE} isn't found: name its folder in ZANGJULF_LIB_DIR, install it below PKG_CONFIG_PATH, or run packaging/library.sh");
     };
     println!("cargo:rerun-if-changed={}", folder.join(ARCHIVE).display());
     println!("cargo:rustc-link-search=native={}", folder.display());

@@ -20,7 +20,7 @@ from .faults import (
     UnknownAlias, AlreadyPresent, NotPresent, Mandatory, UnknownStation, Absent, NoSuchArea, NoSuchTask, UnknownPdo,
     RepeatedPdo, AreaTooBig, TooManyDatagrams, EpochsSpent, StalePost, PostLength, NothingOwed,
     SerialsSpent, Short, NotEtherCat, BadType, BadLength, Circulating, MoreFollows, UnknownCommand, IndexMismatch,
-    Memory, Room, AliasTaken, StationTaken, VariableTaken, TooManyGroups, TooManySlaves, Waits, Nothing, IsInput, TooWide,
+    Memory, Room, AliasTaken, StationTaken, VariableTaken, TooManyGroups, TooManySlaves, Waits, UnderWay, Nothing, IsInput, TooWide,
     ProjectNotToml, ProjectMissingField, ProjectOutOfRange, ProjectRepeatedAlias, ProjectRepeatedStation,
     ProjectRepeatedSyncManager, ProjectOverlappingAreas, ProjectRepeatedVariable, ProjectUnknownPdo,
     ProjectAreaTooBig, ProjectNotOneGroup, Busy, Misused, Closed,
@@ -44,6 +44,6 @@ __all__ = [
     "ProjectRepeatedSyncManager", "ProjectRepeatedVariable", "ProjectUnknownPdo", "RepeatedPdo", "Room",
     "SLAVE_MEMORY", "Seat", "Sent", "SerialsSpent", "Short", "Slave", "Spot", "StalePost", "State", "StationTaken", "Taken",
     "TooManyDatagrams", "TooManyGroups", "TooManySlaves", "TooWide", "UnknownAlias", "UnknownCommand", "UnknownPdo",
-    "UnknownStation", "VariableTaken", "View", "Waiting", "Waits", "__version__", "alias_read", "fmmu_off", "get_bits",
+    "UnderWay", "UnknownStation", "VariableTaken", "View", "Waiting", "Waits", "__version__", "alias_read", "fmmu_off", "get_bits",
     "is_mine", "library_path", "library_version", "locate", "put_bits", "station_write",
 ]

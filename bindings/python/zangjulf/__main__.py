@@ -4,12 +4,12 @@ from pathlib import Path
 
 from . import __version__, library_path, library_version
 
-#: what tools/release.sh writes beside the library: the kit, the program logic and what each crate was proved with
+#: what packaging/release.sh writes beside the library: the kit, the program logic and what each crate was proved with
 VERDICT = "verdict.txt"
 
 
 def verdict(library: Path) -> str:
-    """The verdict file of a library: beside it, or where tools/install.sh puts it."""
+    """The verdict file of a library: beside it, or where packaging/install.sh puts it."""
     for place in (library.parent / VERDICT, library.parent.parent / "share/doc/zangjulf" / VERDICT):
         if place.exists():
             return place.read_text(encoding="utf-8").rstrip()

@@ -255,6 +255,13 @@ class Waits(Fault):
     text = "a task waits: owed register blocks concern it, or a slave outside the line may map it"
 
 
+class UnderWay(Fault):
+    """Every owed register block is under way."""
+
+    number = 37
+    text = "every owed register block is under way"
+
+
 class Nothing(Fault):
     """There is no such variable, datagram, slave or block."""
 

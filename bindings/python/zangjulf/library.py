@@ -154,6 +154,7 @@ LINE_CALLS: dict[str, tuple[Any, ...]] = {
     "declare": (*_SLICE, c_bool, POINTER(Cost)),
     "next_write": (*_SLICE, POINTER(Write)),
     "next_writes": (*_SLICE, POINTER(Writes)),
+    "further_writes": (*_SLICE, POINTER(Writes)),
     "slave_lost": (c_uint16,),
     "post": (c_uint8, c_uint32, *_SLICE),
     "send": (*_SLICE, *_SLICE, POINTER(Frame), c_size_t, POINTER(Sent)),
@@ -197,7 +198,7 @@ CALLS: dict[str, tuple[Any, ...]] = {
 
 def library_path() -> str:
     """Where the shared object is: the file that ZANGJULF_LIBRARY names, the one that the package carries, the one that
-    tools/library.sh left in the repository's build folder, or what the system's linker finds."""
+    packaging/library.sh left in the repository's build folder, or what the system's linker finds."""
     named = os.environ.get("ZANGJULF_LIBRARY")
     if named:
         return named

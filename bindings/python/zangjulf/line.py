@@ -197,6 +197,15 @@ class Line:
             self._done(self._call("next_writes", *c.slice_of(self._out), byref(it)), it.size)
             return bytes(self._out[: it.size])
 
+    def further_writes(self) -> bytes:
+        """Sends the first owed register blocks that are not under way in one frame, as many as it holds: its frame. Earlier frames stay
+        under way, and each answer counts for its own blocks. A frame that does not come back is sent again by `next_writes`.
+        `NothingOwed`, `UnderWay`, `SerialsSpent`, `Memory`."""
+        it = c.Writes()
+        with self._lock:
+            self._done(self._call("further_writes", *c.slice_of(self._out), byref(it)), it.size)
+            return bytes(self._out[: it.size])
+
     def slave_lost(self, station: int) -> None:
         """A slave of the line may have lost its registers, as one that was switched off and on: each of its register blocks is owed again,
         and nothing else changes. A write that was sent to it before confirms nothing any more. `UnknownStation`, `Absent`."""

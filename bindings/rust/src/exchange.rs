@@ -192,6 +192,35 @@ impl Line {
         Ok(Writes { frame: &out[..writes.size as usize], blocks: writes.blocks })
     }
 
+    /// Sends the first owed register blocks that are not under way in one frame, as many as it holds: the frame is at the front of
+    /// `out`, for which [`crate::FRAME`] bytes are enough. Earlier frames stay under way, and each answer counts for its own blocks. A
+    /// frame that does not come back is sent again by [`Line::next_writes`]. `NothingOwed`, `UnderWay`, `SerialsSpent`, `Room` with the
+    /// bytes needed, `Memory`; then nothing changed, `out` neither.
+    ///
+    /// ```
+    /// # fn main() -> Result<(), Box<dyn std::error::Error>> {
+    /// # let mut line = zangjulf::Line::open(include_bytes!("../../../examples/tool_changer.toml"))?;
+    /// # let mut slaves = [1001, 1002, 1003, 1004].map(|station| zangjulf::Slave::new(0, station));
+    /// use zangjulf::Fault;
+    /// let (mut first, mut others) = ([0; zangjulf::FRAME], [0; zangjulf::FRAME]);
+    /// let mut first = line.next_write(&mut first)?.frame.to_vec();
+    /// let mut others = line.further_writes(&mut others)?.frame.to_vec();
+    /// let Err(Fault::UnderWay) = line.further_writes(&mut [0; zangjulf::FRAME]) else { panic!("two frames are under way") };
+    /// for frame in [&mut others, &mut first] {
+    ///     slaves.iter_mut().for_each(|slave| slave.process(frame));
+    ///     line.arrive(frame)?;
+    /// }
+    /// assert_eq!(line.owed(), 0);
+    /// # Ok(())
+    /// # }
+    /// ```
+    pub fn further_writes<'a>(&mut self, out: &'a mut [u8]) -> Result<Writes<'a>, Fault> {
+        let mut writes = ffi::Writes::default();
+        let number = unsafe { ffi::zangjulf_further_writes(&mut self.handle, out.as_mut_ptr(), out.len(), &mut writes) };
+        done(number, writes.size as usize)?;
+        Ok(Writes { frame: &out[..writes.size as usize], blocks: writes.blocks })
+    }
+
     /// A slave of the line may have lost its registers, as one that was switched off and on: each of its register blocks is owed again,
     /// and nothing else changes. A write that was sent to it before confirms nothing any more. `UnknownStation`, `Absent`; then nothing
     /// changed.

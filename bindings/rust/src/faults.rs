@@ -111,6 +111,7 @@ faults! {
     TooManyGroups = 34, "more than 512 groups would be declared, the mandatory one counted";
     TooManySlaves = 35, "more than 2,048 slaves would be declared";
     Waits(Waits) = 36, "a task waits: owed register blocks concern it, or a slave outside the line may map it";
+    UnderWay = 37, "every owed register block is under way";
     Nothing = 100, "there is no such variable, datagram, slave or block";
     IsInput = 105, "the variable is an input: it takes no value";
     TooWide = 106, "the value needs more bits than there are";

@@ -210,6 +210,7 @@ extern "C" {
     pub fn zangjulf_owed_block(handle: *const Handle, index: u32, block: *mut OwedBlock) -> u8;
     pub fn zangjulf_next_write(handle: *mut Handle, out: *mut u8, length: usize, write: *mut Write) -> u8;
     pub fn zangjulf_next_writes(handle: *mut Handle, out: *mut u8, length: usize, writes: *mut Writes) -> u8;
+    pub fn zangjulf_further_writes(handle: *mut Handle, out: *mut u8, length: usize, writes: *mut Writes) -> u8;
     pub fn zangjulf_slave_lost(handle: *mut Handle, station: u16) -> u8;
     pub fn zangjulf_post(handle: *mut Handle, task: u8, epoch: u32, bytes: *const u8, length: usize) -> u8;
     pub fn zangjulf_send(

@@ -1,4 +1,4 @@
-//! Where structs have their fields: as in the header, by what tools/embed/layout.c prints into the file that ZANGJULF_LAYOUT names.
+//! Where structs have their fields: as in the header, by what ci/embed/layout.c prints into the file that ZANGJULF_LAYOUT names.
 
 use crate::{ffi, Block, Cost, Counters, Datagram, ImageSizes, OwedBlock, Taken, Waits};
 use std::mem::{offset_of, size_of};

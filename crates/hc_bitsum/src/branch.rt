@@ -108,7 +108,7 @@ impl Branch {
         filled.after(&self.sums[node])
     }
 
-    /// The same; the node that is read is a step.
+    /// Returns how far a datagram is filled after all areas of a node are in it. Reading the node is a step.
     fn after_node<L: Ledger>(&self, node: usize, filled: Filled, steps: &mut Steps<L>) -> Filled
         requires node { node < length self.now.sums.items }
         requires here { filled.bit < 2 ^ 31 }

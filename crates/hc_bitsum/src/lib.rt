@@ -10,3 +10,8 @@ mod row;
 pub mod steps;
 pub mod sum;
 pub mod tree;
+
+pub use filled::Filled;
+pub use steps::Steps;
+pub use sum::Sum;
+pub use tree::SumTree;

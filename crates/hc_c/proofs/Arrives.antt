@@ -78,7 +78,7 @@ refused-arrives old bytes fault number before whole is numbered =
 
 pub record IsDone (old new : History) (bytes : List ℕ) (which : Arrived) (list : List core.Outcome) (state : State) : Type 0 where
   pub none : fault_in bytes ≡ None
-  pub answer_given : arrived_answer which list ≡ answer_to old (ArrivesStep bytes)
+  pub answer : arrived_answer which list ≡ answer_to old (ArrivesStep bytes)
   pub entries : new ≡ entries_after old (ArrivesStep bytes)
   pub reachable : IsReachable new
   pub state_is : state ≡ state_of new
@@ -104,10 +104,10 @@ outcomes_are : (old new : History) (bytes : List ℕ) (which : Arrived) (list : 
     → answered_as which (table_of (line state)) list (placed_from 16 (reading_of bytes).parts) ≡ outcomes_out (arrived_answer which list) (judged_by old (reading_of bytes))
 outcomes_are old new bytes arrived.Answered list state done =
     outcomes-reported old state (reading_of bytes) list (reachable_before old new bytes done.none done.entries done.reachable) (done.state_is ∙ state_before old new bytes done.none done.entries) done.project done.uncrowded
-    (answered_read old bytes (answer.Answered list) done.none done.answer_given)
-outcomes_are old new bytes arrived.Written list state done = blocks-reported old (reading_of bytes) (answer.Written list) (answered_read old bytes (answer.Written list) done.none done.answer_given) refl
-outcomes_are old new bytes arrived.WriteDone list state done = blocks-reported old (reading_of bytes) answer.WriteDone (answered_read old bytes answer.WriteDone done.none done.answer_given) refl
-outcomes_are old new bytes arrived.WriteMissed list state done = blocks-reported old (reading_of bytes) answer.WriteMissed (answered_read old bytes answer.WriteMissed done.none done.answer_given) refl
+    (answered_read old bytes (answer.Answered list) done.none done.answer)
+outcomes_are old new bytes arrived.Written list state done = blocks-reported old (reading_of bytes) (answer.Written list) (answered_read old bytes (answer.Written list) done.none done.answer) refl
+outcomes_are old new bytes arrived.WriteDone list state done = blocks-reported old (reading_of bytes) answer.WriteDone (answered_read old bytes answer.WriteDone done.none done.answer) refl
+outcomes_are old new bytes arrived.WriteMissed list state done = blocks-reported old (reading_of bytes) answer.WriteMissed (answered_read old bytes answer.WriteMissed done.none done.answer) refl
 outcomes_are old new bytes arrived.Stale list state done = refl
 
 -- those of tasks are counted
@@ -123,13 +123,13 @@ counted_are old new bytes arrived.Stale list state done = refl
 whole_is : (old new : History) (bytes : List ℕ) (which : Arrived) (list : List core.Outcome) (state : State) (whole : Arrival) → IsDone old new bytes which list state
     → arrival_out which (length list) (reading_of bytes).serial ≡ arrival_of (arrived_answer which list) (reading_of bytes).serial (judged_by old (reading_of bytes)) whole
 whole_is old new bytes arrived.Answered list state whole done =
-    ap (λ count. arrival_as (reading_of bytes).serial count OF_TASKS) (tasks-counted old (reading_of bytes) list (answered_read old bytes (answer.Answered list) done.none done.answer_given))
+    ap (λ count. arrival_as (reading_of bytes).serial count OF_TASKS) (tasks-counted old (reading_of bytes) list (answered_read old bytes (answer.Answered list) done.none done.answer))
 whole_is old new bytes arrived.Written list state whole done =
-    ap (λ count. arrival_as (reading_of bytes).serial count OF_BLOCKS) (blocks-counted old (reading_of bytes) (answer.Written list) (answered_read old bytes (answer.Written list) done.none done.answer_given) refl)
+    ap (λ count. arrival_as (reading_of bytes).serial count OF_BLOCKS) (blocks-counted old (reading_of bytes) (answer.Written list) (answered_read old bytes (answer.Written list) done.none done.answer) refl)
 whole_is old new bytes arrived.WriteDone list state whole done =
-    ap (λ count. arrival_as (reading_of bytes).serial count OF_BLOCKS) (blocks-counted old (reading_of bytes) answer.WriteDone (answered_read old bytes answer.WriteDone done.none done.answer_given) refl)
+    ap (λ count. arrival_as (reading_of bytes).serial count OF_BLOCKS) (blocks-counted old (reading_of bytes) answer.WriteDone (answered_read old bytes answer.WriteDone done.none done.answer) refl)
 whole_is old new bytes arrived.WriteMissed list state whole done =
-    ap (λ count. arrival_as (reading_of bytes).serial count OF_BLOCKS) (blocks-counted old (reading_of bytes) answer.WriteMissed (answered_read old bytes answer.WriteMissed done.none done.answer_given) refl)
+    ap (λ count. arrival_as (reading_of bytes).serial count OF_BLOCKS) (blocks-counted old (reading_of bytes) answer.WriteMissed (answered_read old bytes answer.WriteMissed done.none done.answer) refl)
 whole_is old new bytes arrived.Stale list state whole done = refl
 
 numbered_by : (which : Arrived) (list : List core.Outcome) → 0 ≡ answer_number (arrived_answer which list)
@@ -160,10 +160,10 @@ done-arrives old new bytes which list state before after whole whole' counts don
     let history = embedded_history old in
     let given = arrived_answer which list in
     let read = read_ok bytes done.none in
-    let may : MayAnswer history (ArrivesStep bytes) given (embedded_history new) = inl (record { answer = done.answer_given; entries = done.entries }) in
+    let may : MayAnswer history (ArrivesStep bytes) given (embedded_history new) = inl (record { answer = done.answer; entries = done.entries }) in
     let judged : judged_by history (reading_of bytes) ≡ bytes_judged history (arrival_in bytes) = sym (ap (bytes_judged history) read) in
     let serial : (reading_of bytes).serial ≡ serial_borne (arrival_in bytes) = sym (ap serial_borne read) in
-    subst (λ (one : Answer). ArrivesAs one old new bytes 0 before after whole whole') done.answer_given (record {
+    subst (λ (one : Answer). ArrivesAs one old new bytes 0 before after whole whole') done.answer (record {
       numbered = numbered_by which list;
       line = lined
           ∙ ap (with_counts (embedded_discarding old (entries_after history (ArrivesStep bytes)))) (counted ∙ ap (all_judged old.counts) (counted_are history (embedded_history new) bytes which list state done)

@@ -23,19 +23,20 @@ use Rattle.hc_records.proofs.lemmas.Packable.{project-packable}
 use Rattle.hc_registers.specs.Blocks.{LineBlock}
 use Rattle.hc_frames.specs.declared.limits.TheConstants.{MAX_ETHERCAT}
 use Rattle.hc_events.specs.declared.faults.CoreFault.TheVariants.{Memory, Room}
-use Rattle.hc_events.specs.Calls.{AreSentTogether, frames_size, ready_into_faults, write_all_into_faults, write_into_faults, write_size}
+use Rattle.hc_events.specs.Calls.{AreSentTogether, frames_size, further_into_faults, ready_into_faults, write_all_into_faults, write_into_faults, write_size}
 use Rattle.hc_events.specs.Entries.{History}
 use Rattle.hc_events.specs.Owed.{owed_blocks}
 use Rattle.hc_events.specs.Points.{next_serial, state_of}
 use Rattle.hc_events.specs.Sendings.{Frame, Named, frame_joined, frame_of_one, framed, framed_after, has_room, line_data_length, sendings_of, sent_frame_size, task_datagrams}
 use Rattle.hc_events.specs.Steps.{proposal}
+use Rattle.hc_events.specs.UnderWay.{further_blocks}
 use Rattle.hc_events.specs.WriteFrames.{block_bytes, blocks_bytes, frame_blocks, writes_size}
 use Rattle.hc_events.proofs.lemmas.Fronts.{beside-fits}
 use Rattle.hc_sendings.proofs.lemmas.Listed.{standing-task}
 use Rattle.hc_core.specs.declared.writing.SentWrites.{SentWrites}
-use Rattle.hc_core.specs.Written.{HoldsWrite, HoldsWrites}
+use Rattle.hc_core.specs.Written.{HoldsFurther, HoldsWrite, HoldsWrites}
 use Rattle.hc_core.proofs.lemmas.BlockSizes.{write-sized}
-use Rattle.hc_c.proofs.Rooms.{ready_frames_need, write_needs, writes_need}
+use Rattle.hc_c.proofs.Rooms.{further_needs, ready_frames_need, write_needs, writes_need}
 
 -- a datagram of a task has at most 1,486 bytes of data
 
@@ -176,8 +177,8 @@ write_need_small history bytes needed refused =
     let same = write_needs history bytes needed refused in
     omega (arith, small, same)
 
-all_small : (history : History) → writes_size (frame_blocks (owed_blocks history)) < 4294967296
-all_small history = let fits = beside-fits 0 (owed_blocks history) (omega arith) in omega (arith, fits)
+all_small : (blocks : List LineBlock) → writes_size (frame_blocks blocks) < 4294967296
+all_small blocks = let fits = beside-fits 0 blocks (omega arith) in omega (arith, fits)
 
 blocks_counted : (blocks : List LineBlock) → length blocks ≤ blocks_bytes blocks
 blocks_counted [] = omega arith
@@ -188,19 +189,44 @@ blocks_counted (block ∷ blocks) =
 
 pub writes_small : (history : History) (old new : List ℕ) (sent : SentWrites) → HoldsWrites history old new sent → sent.size < 4294967296
 writes_small history old new sent holds =
-    let small = all_small history in
+    let small = all_small (owed_blocks history) in
     let same = holds.blocks.size in
     omega (arith, small, same)
 
+all_few : (blocks : List LineBlock) → length (frame_blocks blocks) < 4294967296
+all_few blocks =
+    let fits = beside-fits 0 blocks (omega arith) in
+    let few = blocks_counted (frame_blocks blocks) in
+    omega (arith, fits, few)
+
 pub blocks_small : (history : History) (old new : List ℕ) (sent : SentWrites) → HoldsWrites history old new sent → sent.blocks < 4294967296
 blocks_small history old new sent holds =
-    let fits = beside-fits 0 (owed_blocks history) (omega arith) in
-    let few = blocks_counted (frame_blocks (owed_blocks history)) in
+    let few = all_few (owed_blocks history) in
     let same = holds.blocks.count in
-    omega (arith, fits, few, same)
+    omega (arith, few, same)
 
 pub writes_need_small : (history : History) (bytes needed : ℕ) → lowest (write_all_into_faults history bytes) ≡ Some (Room needed) → needed < 4294967296
 writes_need_small history bytes needed refused =
-    let small = all_small history in
+    let small = all_small (owed_blocks history) in
     let same = writes_need history bytes needed refused in
+    omega (arith, small, same)
+
+-- those of further register writes
+
+pub further_small : (history : History) (old new : List ℕ) (sent : SentWrites) → HoldsFurther history old new sent → sent.size < 4294967296
+further_small history old new sent holds =
+    let small = all_small (further_blocks history) in
+    let same = holds.blocks.size in
+    omega (arith, small, same)
+
+pub further_few : (history : History) (old new : List ℕ) (sent : SentWrites) → HoldsFurther history old new sent → sent.blocks < 4294967296
+further_few history old new sent holds =
+    let few = all_few (further_blocks history) in
+    let same = holds.blocks.count in
+    omega (arith, few, same)
+
+pub further_need_small : (history : History) (bytes needed : ℕ) → lowest (further_into_faults history bytes) ≡ Some (Room needed) → needed < 4294967296
+further_need_small history bytes needed refused =
+    let small = all_small (further_blocks history) in
+    let same = further_needs history bytes needed refused in
     omega (arith, small, same)

@@ -20,3 +20,6 @@ mod SteadySlots
 mod TakenBits
 mod Takings
 mod LastImages
+mod LastSendings
+mod LinesLed
+mod TaskStates

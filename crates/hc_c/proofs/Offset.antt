@@ -124,7 +124,7 @@ sizes row offset next (suc n) a =
 abbrev parts_of : Option TaskTable → ℕ × ℕ
 parts_of table = option_map_or (λ found. (found.outputs, found.inputs)) table (0, 0)
 
-task-there : (members : List Member) (task : ℕ) → task < TASKS → slice_get (map (task_table members) tasks) task ≡ Some (task_table members task)
+pub task-there : (members : List Member) (task : ℕ) → task < TASKS → slice_get (map (task_table members) tasks) task ≡ Some (task_table members task)
 task-there members (suc (suc (suc (suc (suc (suc (suc (suc task)))))))) low = absurd (omega arith)
 task-there members other low = refl
 

@@ -54,12 +54,12 @@ pub own-accepted : {X : Type 0} (found : Option EditFault) (value : X) (number :
 own-accepted None value number own = tt
 own-accepted (Some fault) value number own = absurd (same_found own)
 
-pub own-refused : (X : Type 0) (found : Option EditFault) (answer_given : EditFault) (number : ℕ) → number ≡ core_fault_number (edit_refusal answer_given)
-    → IfSome found (λ fault. ◌≡◌ {A = Result X EditFault} (Err answer_given) (Err fault)) → IfSome found (λ fault. number ≡ core_fault_number (edit_refusal fault))
-own-refused X None answer_given number is own = tt
-own-refused X (Some fault) answer_given number is own = is ∙ ap (λ (it : EditFault). core_fault_number (edit_refusal it)) (same_answered own)
+pub own-refused : (X : Type 0) (found : Option EditFault) (judged_fault : EditFault) (number : ℕ) → number ≡ core_fault_number (edit_refusal judged_fault)
+    → IfSome found (λ fault. ◌≡◌ {A = Result X EditFault} (Err judged_fault) (Err fault)) → IfSome found (λ fault. number ≡ core_fault_number (edit_refusal fault))
+own-refused X None judged_fault number is own = tt
+own-refused X (Some fault) judged_fault number is own = is ∙ ap (λ (it : EditFault). core_fault_number (edit_refusal it)) (same_answered own)
 
-pub own-found : (found : Option EditFault) (answer_given : EditFault) (number : ℕ) → number ≡ core_fault_number (edit_refusal answer_given) → found ≡ Some answer_given
+pub own-found : (found : Option EditFault) (judged_fault : EditFault) (number : ℕ) → number ≡ core_fault_number (edit_refusal judged_fault) → found ≡ Some judged_fault
     → IfSome found (λ fault. number ≡ core_fault_number (edit_refusal fault))
-own-found None answer_given number is same = tt
-own-found (Some fault) answer_given number is same = is ∙ sym (ap (λ (it : EditFault). core_fault_number (edit_refusal it)) (same_Some fault answer_given same))
+own-found None judged_fault number is same = tt
+own-found (Some fault) judged_fault number is same = is ∙ sym (ap (λ (it : EditFault). core_fault_number (edit_refusal it)) (same_Some fault judged_fault same))

@@ -4,12 +4,13 @@ use Rattle.std.proofs.lemmas.Option.{same_Some}
 use Rattle.std.proofs.lemmas.Bool.{eq-eqb}
 use Rattle.hc_records.specs.Lists.{lowest}
 use Rattle.hc_events.specs.declared.faults.CoreFault.{CoreFault}
-use Rattle.hc_events.specs.declared.faults.CoreFault.TheVariants.{UnknownAlias, AlreadyPresent, NotPresent, Mandatory, UnknownStation, Absent, NoSuchArea, NoSuchTask, UnknownPdo, RepeatedPdo, AreaTooBig, TooManyDatagrams, EpochsSpent, StalePost, PostLength, Unprogrammed, NothingOwed, SerialsSpent, Short, NotEtherCat, BadType, BadLength, Circulating, MoreFollows, UnknownCommand, IndexMismatch, Memory, Room, BadGroup, AliasTaken, StationTaken, VariableTaken, TooManyGroups, TooManySlaves, Waits}
-use Rattle.hc_events.specs.Calls.{frames_size, ready_into_faults, room_faults, send_into_faults, write_all_into_faults, write_into_faults, write_size}
+use Rattle.hc_events.specs.declared.faults.CoreFault.TheVariants.{UnknownAlias, AlreadyPresent, NotPresent, Mandatory, UnknownStation, Absent, NoSuchArea, NoSuchTask, UnknownPdo, RepeatedPdo, AreaTooBig, TooManyDatagrams, EpochsSpent, StalePost, PostLength, Unprogrammed, NothingOwed, SerialsSpent, Short, NotEtherCat, BadType, BadLength, Circulating, MoreFollows, UnknownCommand, IndexMismatch, Memory, Room, BadGroup, AliasTaken, StationTaken, VariableTaken, TooManyGroups, TooManySlaves, Waits, UnderWay}
+use Rattle.hc_events.specs.Calls.{frames_size, further_into_faults, ready_into_faults, room_faults, send_into_faults, write_all_into_faults, write_into_faults, write_size}
 use Rattle.hc_events.specs.Entries.{History}
 use Rattle.hc_events.specs.Faults.{core_fault_number}
 use Rattle.hc_events.specs.Owed.{owed_blocks}
-use Rattle.hc_events.specs.Steps.{has_serials, proposal, ready_faults, task_faults, wait_fault, write_faults}
+use Rattle.hc_events.specs.Steps.{further_faults, has_serials, proposal, ready_faults, task_faults, wait_fault, write_faults}
+use Rattle.hc_events.specs.UnderWay.{further_blocks}
 use Rattle.hc_events.specs.WriteFrames.{frame_blocks, writes_size}
 
 -- no other fault has its number
@@ -49,6 +50,7 @@ numbered_room VariableTaken e = cc
 numbered_room TooManyGroups e = cc
 numbered_room TooManySlaves e = cc
 numbered_room (Waits task blocks outside) e = cc
+numbered_room UnderWay e = cc
 
 pub room_alone : (fault : CoreFault) → core_fault_number fault ≡ 29 → (needed : ℕ) × (fault ≡ Room needed)
 room_alone fault e = numbered_room fault (eq-eqb (core_fault_number fault) 29 e)
@@ -87,6 +89,12 @@ pub writes_need : (history : History) (bytes needed : ℕ) → lowest (write_all
 writes_need history bytes needed is =
     let apart : AreOther (write_faults history (owed_blocks history)) = (λ one e. cc, (λ one e. cc, tt)) in
     needed_after (write_faults history (owed_blocks history)) (writes_size (frame_blocks (owed_blocks history))) bytes needed apart is
+
+-- those of a frame of further register writes
+pub further_needs : (history : History) (bytes needed : ℕ) → lowest (further_into_faults history bytes) ≡ Some (Room needed) → needed ≡ writes_size (frame_blocks (further_blocks history))
+further_needs history bytes needed is =
+    let apart : AreOther (further_faults history) = (λ one e. cc, (λ one e. cc, (λ one e. cc, tt))) in
+    needed_after (further_faults history) (writes_size (frame_blocks (further_blocks history))) bytes needed apart is
 
 -- those of tasks that are sent
 pub frames_need : (history : History) (tasks : List ℕ) (bytes needed : ℕ) → lowest (send_into_faults history tasks bytes) ≡ Some (Room needed) → needed ≡ frames_size history tasks
@@ -142,6 +150,7 @@ numbered_waits VariableTaken e = cc
 numbered_waits TooManyGroups e = cc
 numbered_waits TooManySlaves e = cc
 numbered_waits (Waits task blocks outside) e = (task, blocks, outside, refl)
+numbered_waits UnderWay e = cc
 
 pub waits_alone : (fault : CoreFault) → core_fault_number fault ≡ 36 → (task blocks outside : ℕ) × (fault ≡ Waits task blocks outside)
 waits_alone fault e = numbered_waits fault (eq-eqb (core_fault_number fault) 36 e)

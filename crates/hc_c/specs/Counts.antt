@@ -1,4 +1,5 @@
--- How often each datagram was sent, and what arrivals were for it, since the line was opened. An edit sets nothing back.
+-- The counters of each datagram since the line was opened: its sendings, and the outcomes of its arrivals. Edits leave the
+-- counters.
 use Rattle.std.specs.Prelude.{ℕ, ◌+◌, ◌*◌, ◌-◌, ◌^◌, ◌==◌, ◌&&◌, nat_lt, min, if◌then◌else◌, List, fold, replicate, slice_index_or, slice_set}
 use Rattle.hc_records.specs.declared.limits.TheConstants.{MOST_DATAGRAMS, TASKS}
 use Rattle.hc_records.specs.Slots.{slot_number}
@@ -12,15 +13,15 @@ use Rattle.hc_c.specs.declared.numbers.TheConstants.{DONE, NOTHING}
 abbrev pub Counts : Type 0
 Counts = List Counters
 
--- those of a datagram that was never sent
+-- the counters of a datagram that was never sent
 abbrev pub nothing_counted : Counters
 nothing_counted = record { sent = 0; good = 0; wrong = 0; again = 0 }
 
--- no datagram was sent yet
+-- the counters of an opened line: no datagram was sent yet
 abbrev pub opening_counts : Counts
 opening_counts = replicate (TASKS * MOST_DATAGRAMS) nothing_counted
 
--- one more, and at the last number of 64 bits no more
+-- one more; the largest number of 64 bits stays
 abbrev pub counted_up : ℕ → ℕ
 counted_up number = min (number + 1) (2 ^ 64 - 1)
 
@@ -28,39 +29,39 @@ counted_up number = min (number + 1) (2 ^ 64 - 1)
 abbrev pub counters_of : Counts → ℕ → ℕ → Counters
 counters_of counts task d = slice_index_or counts (slot_number task d) nothing_counted
 
--- they become these
+-- the counters, with these for a datagram
 abbrev pub with_counters : Counts → ℕ → ℕ → Counters → Counts
 with_counters counts task d counters = slice_set counts (slot_number task d) counters
 
--- a datagram is sent once more
+-- the counters, with one more sending of a datagram
 abbrev pub sent_once : Counts → Named → Counts
 sent_once counts named =
     with_counters counts named.0 named.1
     (record (counters_of counts named.0 named.1) { sent = counted_up (counters_of counts named.0 named.1).sent })
 
--- so is each datagram of a frame
+-- the counters, with one more sending of each datagram of a frame
 abbrev pub frame_sent : Counts → Frame → Counts
 frame_sent counts frame = fold sent_once counts frame.datagrams
 
--- and of all frames of a sending
+-- the counters, with one more sending of each datagram of all frames of a sending
 abbrev pub all_counted_sent : Counts → List Frame → Counts
 all_counted_sent counts frames = fold frame_sent counts frames
 
--- the counters of a datagram, where an arrival is of this kind for it
+-- the counters of a datagram after an arrival of this kind for it
 abbrev pub judged_as : ℕ → Counters → Counters
 judged_as kind counters =
     if kind == INPUTS then record counters { good = counted_up counters.good }
     else (if kind == WRONG_COUNT then record counters { wrong = counted_up counters.wrong } else record counters { again = counted_up counters.again })
 
--- what an arrival is for a datagram is counted
+-- the counters after an outcome for a datagram
 abbrev pub judged_once : Counts → Outcome → Counts
 judged_once counts one =
     with_counters counts one.task one.datagram (judged_as one.kind (counters_of counts one.task one.datagram))
 
--- so is what it is for each of its datagrams
+-- the counters after the outcomes of an arriving frame's datagrams
 abbrev pub all_judged : Counts → List Outcome → Counts
 all_judged counts outcomes = fold judged_once counts outcomes
 
--- 0 where a line can have the datagram of a task with a number, else 100
+-- 0 if a line can have the datagram of a task with a number, else 100
 abbrev pub counters_number : ℕ → ℕ → ℕ
 counters_number task d = if nat_lt task TASKS && nat_lt d MOST_DATAGRAMS then DONE else NOTHING

@@ -1,4 +1,4 @@
--- What C gets for an edit.
+-- Edits, in C.
 use Rattle.std.specs.Prelude.{◌≡◌, ◌≢◌, ℕ, Bool, true, false, ◌∷◌, length, replicate, IfSome, Result, Ok, Err}
 use Rattle.hc_records.specs.declared.edit.Edit.{Edit}
 use Rattle.hc_records.specs.declared.faults.EditFault.{EditFault}
@@ -20,7 +20,7 @@ use Rattle.hc_c.specs.declared.embedded.Embedded.{Embedded}
 use Rattle.hc_c.specs.declared.numbers.TheConstants.{OVER_LIMIT, DONE, MEMORY}
 use Rattle.hc_c.specs.Embedded.{embedded_discarding, embedded_history}
 
--- what an edit does that leads from one state to another, with these tasks waiting after it; no task is over its limit by it
+-- the effect of an edit that leads from one state to another, with these tasks waiting after it; no task is over its limit
 pub record IsCost (old new : State) (waits : ℕ) (cost : Cost) : Type 0 where
   pub epoch : cost.epoch ≡ new.epoch
   pub recut : cost.recut ≡ recut (line old) (line new)
@@ -30,7 +30,8 @@ pub record IsCost (old new : State) (waits : ℕ) (cost : Cost) : Type 0 where
   pub waits_are : cost.waits ≡ waits
   pub reserved : cost.reserved ≡ replicate 2 0
 
--- what an edit of a line with this history does; the tasks that wait after it are those once each slave that comes is cleared
+-- the effect of an edit of a line with this history; the tasks that wait after it are those that wait once each slave that
+-- comes is cleared
 abbrev pub CostsEdit : History → Edit → Cost → Type 0
 CostsEdit history edit = IsCost (state_of history) (state_after (state_of history) edit) (waiting_after history edit)
 
@@ -43,7 +44,9 @@ abbrev pub edit_number : Result State EditFault → ℕ
 edit_number (Ok state) = DONE
 edit_number (Err fault) = core_fault_number (edit_refusal fault)
 
--- the edit is judged as the core judges it, or memory was wanted, which no fault that the edit has by itself waits for; if it is accepted its cost is reported, and it is carried out unless C only asks; else nothing changes, and of the cost only the task over its limit is written, if there is one
+-- the edit is judged as the core judges it, or an allocation failed, which hides no fault that the edit has by itself; if it is
+-- accepted its effect is written, and it is carried out unless C only asks; otherwise nothing changes, and only the task over
+-- its limit is written, if there is one
 pub record Serves (old new : Embedded) (edit : Edit) (asks : Bool) (number : ℕ) (before after : Cost) : Type 0 where
   pub answer : number ≢ MEMORY → number ≡ edit_number (edited (state_of (embedded_history old)) edit)
   pub own : IfSome (own_fault (state_of (embedded_history old)).groups edit) (λ fault. number ≡ core_fault_number (edit_refusal fault))

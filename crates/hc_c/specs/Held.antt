@@ -1,4 +1,4 @@
--- What C's handle owns: what a box of the opened line owns, or nothing.
+-- The memory that C's handle owns: that of a box with the opened line, or none.
 use base.Fml.{Fml, ftrue}
 use base.Stored.{Coded}
 use denote.RawPtr.{Ptr}
@@ -10,11 +10,11 @@ use Rattle.std.specs.declared.option.Option.TheVariants.{None, Some}
 use Rattle.std_heap.specs.contracts.GlobalAllocator.TheImpl.{ghosts}
 use Rattle.hc_c.specs.contracts.embedded.Embedded.{the_row}
 
--- where there is a line, its memory with the right to free it
+-- the memory of a line, if there is one, with the right to free it
 abbrev pub owns_embedded : Global → Ptr → Option the_row.Denot → Fml
 owns_embedded alloc at None = ftrue
 owns_embedded alloc at (Some value) = box_owns (ghosts.dealloc_token alloc) the_row at value
 
--- how the logic stores it
+-- the form in which the logic stores a handle
 abbrev pub embedded_coded : Coded (Option the_row.Denot)
 embedded_coded = coded_option the_row.coded

@@ -1,4 +1,4 @@
--- What C's handle of a seat owns: what a box of the task's end owns, or nothing.
+-- The memory that C's handle of a seat owns: that of a box with the task's end, or none.
 use base.Fml.{Fml, ftrue}
 use base.Stored.{Coded}
 use denote.RawPtr.{Ptr}
@@ -10,11 +10,11 @@ use Rattle.std.specs.declared.option.Option.TheVariants.{None, Some}
 use Rattle.std_heap.specs.contracts.GlobalAllocator.TheImpl.{ghosts}
 use Rattle.hc_c.specs.contracts.seat.ends.TaskEnd.{the_row}
 
--- where there is an end, its memory with the right to free it
+-- the memory of an end, if there is one, with the right to free it
 abbrev pub owns_end : Global → Ptr → Option the_row.Denot → Fml
 owns_end alloc at None = ftrue
 owns_end alloc at (Some value) = box_owns (ghosts.dealloc_token alloc) the_row at value
 
--- how the logic stores it
+-- the form in which the logic stores a handle of a seat
 abbrev pub end_coded : Coded (Option the_row.Denot)
 end_coded = coded_option the_row.coded

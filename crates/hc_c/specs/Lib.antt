@@ -26,6 +26,7 @@ pub mod SeatRoom
 pub mod SeatEnds
 pub mod SeatImages
 pub mod Seats
+pub mod LastSendings
 pub mod TakenPosts
 pub mod HeldSeat
 pub mod LendingEnd

@@ -1,4 +1,4 @@
--- What C gets for where a text is no project.
+-- Locations of a text's fault, in C.
 use Rattle.std.specs.Prelude.{◌≡◌, ℕ, ◌+◌, List, Option, Some, None, unwrap_or}
 use Rattle.hc_records.specs.ProjectFault.{project_fault_number}
 use Rattle.hc_records.specs.declared.faults.ProjectFault.TheVariants.{NotToml}
@@ -15,7 +15,7 @@ use Rattle.hc_c.specs.declared.locating.LocatedPlace.{LocatedPlace}
 use Rattle.hc_c.specs.declared.locating.TheConstants.{NOWHERE}
 use Rattle.hc_c.specs.declared.numbers.TheConstants.{DONE, PROJECT}
 
--- an index, or the number of none
+-- an index, or the number that means none
 abbrev pub index_or_none : Option ℕ → ℕ
 index_or_none index = unwrap_or index NOWHERE
 
@@ -40,7 +40,7 @@ key_number (key.Entry item) = 15
 key_number (key.Variable item) = 16
 key_number (key.Bits item) = 17
 
--- the item that a key means, or the number of none
+-- the item that a key means, or the number that means none
 abbrev pub key_item : Key → ℕ
 key_item (key.AssignedAt item) = item
 key_item (key.Entry item) = item
@@ -48,7 +48,7 @@ key_item (key.Variable item) = item
 key_item (key.Bits item) = item
 key_item _ = NOWHERE
 
--- a place, as C gets it
+-- the C form of a place
 abbrev pub located_out : Place → LocatedPlace
 located_out place = record {
   group = place.group;
@@ -61,30 +61,30 @@ located_out place = record {
   key = key_number place.key;
 }
 
--- the places of a fault: the first one is the fault's own where there is no other
+-- the C form of the places of a fault: if there is no earlier one, it is the fault's own
 abbrev pub location_out : project.Location → Location
 location_out located_place = record { line = 0; column = 0; place = located_out located_place.place; first = located_out (unwrap_or located_place.first located_place.place) }
 
--- a line and a column; the places are the document
+-- the C form of a line and a column; the places are the document
 abbrev pub position_out : ℕ → ℕ → Location
 position_out line column = record { line = line; column = column; place = located_out places.document; first = located_out places.document }
 
--- of what was found the number, and what is said of it
+-- the number of a fault
 abbrev pub found_number : Found → ℕ
 found_number (InText line column) = PROJECT + project_fault_number NotToml
 found_number (InProject fault located_place) = PROJECT + project_fault_number fault
 
--- where it was found, as C gets it
+-- the C form of a fault's location
 abbrev pub found_out : Found → Location
 found_out (InText line column) = position_out line column
 found_out (InProject fault located_place) = location_out located_place
 
--- nothing was found, and nothing is reported; or the number and the location of what was found
+-- there is no fault, and nothing is written; or its number is returned and its location written
 abbrev pub LocatesAs : Option Found → ℕ → Location → Location → Type 0
 LocatesAs None number before after = (number ≡ DONE) × (after ≡ before)
 LocatesAs (Some found) number before after = (number ≡ found_number found) × (after ≡ found_out found)
 
--- what is found in a text is reported
+-- the fault of a text is reported
 pub record Locates (text : List ℕ) (number : ℕ) (before after : Location) : Type 0 where
   pub found : Option Found
   pub of_text : LocatesFault text found

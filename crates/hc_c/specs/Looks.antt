@@ -1,4 +1,4 @@
--- What C gets for the configuration of the present line.
+-- Look-ups of the present line's configuration, in C.
 use Rattle.std.specs.Prelude.{◌≡◌, ℕ, ◌≤◌, ◌<◌, ◌++◌, nat_le, if◌then◌else◌, Bool, true, false, List, length, map, drop, option_and_then, Option, Result, Ok, Err, MatchOption}
 use Rattle.std.specs.Option.{option_map_or}
 use Rattle.hc_records.specs.declared.faults.EditFault.{EditFault}
@@ -20,7 +20,7 @@ use Rattle.hc_c.specs.declared.looking.Datagram.{Datagram}
 use Rattle.hc_c.specs.declared.looking.ImageSizes.{ImageSizes}
 use Rattle.hc_c.specs.declared.looking.Place.{Place}
 
--- where the variable with a number is in the present line; 0 is no variable's number
+-- the place of the variable with a number in the present line; 0 is no variable's number
 unfoldable pub place_numbered : History → ℕ → Option VariablePlace
 place_numbered history number = option_and_then (place_in (table_of (line_of history))) (variable_of number)
 
@@ -32,16 +32,16 @@ datagram_at history task number = datagram_in (table_of (line_of history)) task 
 unfoldable pub task_part_bytes : History → ℕ → ℕ × ℕ
 task_part_bytes history task = part_in (table_of (line_of history)) task
 
--- it is an input
+-- the direction is input
 abbrev pub is_input : Dir → Bool
 is_input Out = false
 is_input In = true
 
--- the bit of its task's image where a place of the present line begins
+-- the bit of its task's image at which a place of the present line begins
 unfoldable pub image_bit_of : History → VariablePlace → ℕ
 image_bit_of history place = table_image_bit (table_of (line_of history)) place 0
 
--- a place of the present line, as C gets it
+-- the C form of a place of the present line
 abbrev pub place_out : History → VariablePlace → Place
 place_out history place = record {
   task = place.task;
@@ -52,36 +52,36 @@ place_out history place = record {
   image_bit = image_bit_of history place;
 }
 
--- a datagram, as C gets it
+-- the C form of a datagram
 abbrev pub datagram_out : line.Datagram → Datagram
 datagram_out datagram = record { address = datagram.address; length = datagram.length; expected = datagram.expected; offset = datagram.offset }
 
--- no place, as C gets it
+-- the C form of no place: zeros
 abbrev pub no_place : Place
 no_place = record { task = 0; datagram = 0; bits = 0; is_input = false; bit = 0; image_bit = 0 }
 
--- the place of the variable with a number, as C gets it; zeros if the present line has none
+-- the C form of the place of the variable with a number; zeros if the present line has none
 abbrev pub place_or_zeros : History → ℕ → Place
 place_or_zeros history number = option_map_or (place_out history) (place_numbered history number) no_place
 
--- those of several variables, in their order
+-- the C forms of the places of several variables, in their order
 abbrev pub places_out : History → List ℕ → List Place
 places_out history variables = map (place_or_zeros history) variables
 
--- 0 if so many places fit so much room, else 254
+-- 0 if this many places fit a slice of that many, else 254
 abbrev pub places_number : ℕ → ℕ → ℕ
 places_number count room = if nat_le count room then DONE else MISUSED
 
--- the bytes of a task's outputs and inputs, as C gets them
+-- the C form of the bytes of a task's outputs and inputs
 abbrev pub sizes_out : ℕ × ℕ → ImageSizes
 sizes_out part = record { outputs = part.0; inputs = part.1 }
 
--- a position is given, or the fault why there is none
+-- a position is written, or the fault is returned
 abbrev pub GivesPosition : Result ℕ EditFault → ℕ → ℕ → Type 0
 GivesPosition (Ok found) number position = (number ≡ DONE) × (position ≡ found)
 GivesPosition (Err fault) number position = number ≡ core_fault_number (edit_refusal fault)
 
--- a register block's register and size are reported; its bytes are before what the slice had after them, where they have room there
+-- the register and the size of a block are written, and its bytes before the rest of the slice, if they fit
 pub record GivesBlock (found : RegisterBlock) (number : ℕ) (block : Block) (before after : List ℕ) : Type 0 where
   pub start : block.start ≡ found.register
   pub size : block.size ≡ length found.bytes
@@ -89,7 +89,7 @@ pub record GivesBlock (found : RegisterBlock) (number : ℕ) (block : Block) (be
   pub bytes : number ≡ DONE → after ≡ found.bytes ++ drop (length found.bytes) before
   pub untouched : number ≡ ROOM → after ≡ before
 
--- the block of a slave with a number is given, or there is none; then what C has of one stays
+-- the block of a slave with a number is written; if there is none, the caller's struct is unchanged
 abbrev pub AnswersBlock : History → ℕ → ℕ → ℕ → Block → Block → List ℕ → List ℕ → Type 0
 AnswersBlock history station block number before after out out' =
     MatchOption (block_at (line_of history) station block) ((number ≡ NOTHING) × (after ≡ before)) (λ found. GivesBlock found number after out out')

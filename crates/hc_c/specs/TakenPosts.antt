@@ -1,4 +1,4 @@
--- What is taken of the posts of tasks' seats.
+-- Posts that the owner takes from the tasks' seats.
 use Rattle.std.specs.Prelude.{◌≡◌, ℕ, ◌+◌, ◌*◌, Bool, true, false, not, if◌then◌else◌, List, [], ◌∷◌, ◌++◌, Option, None, Some, map, replicate}
 use Rattle.std.specs.List.{list_any}
 use Rattle.hc_events.specs.declared.answer.Answer.{Answer}
@@ -21,21 +21,22 @@ abbrev pub is_posted : Answer → Bool
 is_posted answer.Posted = true
 is_posted other = false
 
--- it was refused
+-- the post was refused
 abbrev pub is_refused : Answer → Bool
 is_refused given = not (is_posted given)
 
--- the newest of some posts, none of none
+-- the newest of some posts; none if there is no post
 abbrev pub newest_alone : List MailedPost → List MailedPost
 newest_alone [] = []
 newest_alone (first ∷ rest) = last_after first rest ∷ []
 
--- whether the post that was taken last was refused, after these posts came and the newest of them was judged so
+-- the post that was taken last was refused: after these posts came, and the newest of them was judged so
 abbrev pub refused_after : List MailedPost → Bool → Bool → Bool
 refused_after [] before judged = before
 refused_after (first ∷ rest) before judged = judged
 
--- these posts came out of a seat's mailbox since the owner looked before: all that a note named are among those that it saw; the last one's fate is kept, and what the seat is shown is as it was
+-- these posts came out of a seat's mailbox since the owner looked before: all that a note named are among those that it knows;
+-- whether the last one was refused is stored, and the seat's images are unchanged
 pub record ComeOut (old new : OwnerEnd) (posts : List MailedPost) (refused : Bool) : Type 0 where
   pub came : seen new.posts.place ≡ seen old.posts.place ++ posts
   pub noted : StartsWith (seen new.posts.place) (reported old.posts.place)
@@ -43,27 +44,28 @@ pub record ComeOut (old new : OwnerEnd) (posts : List MailedPost) (refused : Boo
   pub fate : new.is_refused ≡ refused_after posts old.is_refused refused
   pub images : new.images ≡ old.images
 
--- these posts of a task became events of the core, in order: whether one of them was accepted, and whether one was refused
+-- these posts of a task became events of the core, in order; one of them was accepted or not, and one refused or not
 pub record AreJudged (task : ℕ) (before after : CoreState) (posts : List MailedPost) (accepted refused : Bool) : Type 0 where
   pub core : after ≡ record before { history = entries_after_all before.history (map (posting_of task) posts) }
   pub any_accepted : accepted ≡ list_any is_posted (answers_to before.history (map (posting_of task) posts))
   pub any_refused : refused ≡ list_any is_refused (answers_to before.history (map (posting_of task) posts))
 
--- the newest post of a task's seat that was not taken, if there is one, was taken and judged
+-- the newest post of a task's seat that was not taken, if any, was taken and judged
 abbrev pub TakesFrom : ℕ → CoreState → CoreState → OwnerEnd → OwnerEnd → Bool × Bool → Type 0
 TakesFrom task before after old new given = (posts : List MailedPost) × ComeOut old new posts given.1 × AreJudged task before after (newest_alone posts) given.0 given.1
 
--- so it was with a task's seat, if it has one
+-- the newest post of a task's seat, if the task has a seat, was taken and judged
 abbrev pub TakesEnd : ℕ → CoreState → CoreState → Option OwnerEnd → Option OwnerEnd → Bool × Bool → Type 0
 TakesEnd task before after None None given = (after ≡ before) × (given ≡ (false, false))
 TakesEnd task before after (Some old) (Some new) given = TakesFrom task before after old new given
 TakesEnd task before after old new given = ⊥
 
--- one where it is so, else none
+-- 1 if it is true, else 0
 abbrev pub one_if : Bool → ℕ
 one_if it = if it then 1 else 0
 
--- and with the seats of all tasks from this number on, one task after another: the first task's bit is the least significant
+-- the newest posts of the seats of all tasks from a number on were taken and judged, one task after another; the first task's
+-- bit is the least significant
 abbrev pub TakesAll : ℕ → CoreState → CoreState → List (Option OwnerEnd) → List (Option OwnerEnd) → ℕ → ℕ → Type 0
 TakesAll task before after [] [] accepted refused = (after ≡ before) × (accepted ≡ 0) × (refused ≡ 0)
 TakesAll task before after (old ∷ olds) (new ∷ updates) accepted refused =
@@ -71,7 +73,7 @@ TakesAll task before after (old ∷ olds) (new ∷ updates) accepted refused =
     × (accepted ≡ one_if given.0 + 2 * others.0) × (refused ≡ one_if given.1 + 2 * others.1)
 TakesAll task before after olds updates accepted refused = ⊥
 
--- the newest posts of a line's seats are taken; all else of the line is as it was
+-- the newest posts of a line's seats are taken; the rest of the line is unchanged
 pub record TakesPosts (taken : TakenPosts) (old new : Embedded) : Type 0 where
   pub posts : TakesAll 0 old.core new.core old.ends.by_task new.ends.by_task taken.accepted taken.refused
   pub reserved : taken.reserved ≡ replicate 6 0

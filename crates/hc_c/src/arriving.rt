@@ -1,4 +1,4 @@
-//! Frames arrive.
+//! Arriving frames: the call that takes one, and the outcomes that it reports.
 ghost use Rattle.std.specs.Prelude.{◌≡◌, ◌≢◌, ◌<◌, All, None};
 ghost use Rattle.hc_c.specs.Arrivals.{Arrives, LeavesAll};
 ghost use Rattle.hc_c.specs.Counts.{all_judged};
@@ -9,7 +9,7 @@ ghost use Rattle.hc_c.specs.declared.numbers.TheConstants.{BUSY};
 
 use crate::counting::Counts;
 use crate::embedded::Embedded;
-use crate::handle::Handle;
+use crate::handle::{Handle, with_line};
 use crate::numbers::DONE;
 use hc_core::naming::{named_by, written_by};
 use hc_events::answer::{Arrived, Outcome as CoreOutcome};
@@ -19,69 +19,71 @@ use hc_frames::reading::{Part, Parts, read_frame};
 use hc_places::table::Places;
 use hc_registers::counters::WRITE_COUNT;
 
-/// The datagram's data are what its task reads now.
+/// Outcome of a task's datagram: the working counter is right, and the task reads its data from now on.
 pub const INPUTS: u8 = 1;
 
-/// It came back with another working counter, and what its task reads is as it was.
+/// Outcome of a task's datagram: the working counter is wrong. The task reads what it read before.
 pub const WRONG_COUNT: u8 = 2;
 
-/// It was sent again since, and what its task reads is as it was; a register block also where its slave was forgotten since.
+/// Outcome of a datagram that was sent again since, or of a register block whose slave was lost or cleared since. Nothing
+/// changes.
 pub const SENT_AGAIN: u8 = 3;
 
-/// The register block was written: it is known.
+/// Outcome of a register block: its slave has it now. The block is confirmed.
 pub const BLOCK_WRITTEN: u8 = 4;
 
-/// No slave took the register block: it stays owed.
+/// Outcome of a register block: no slave took it. It stays owed.
 pub const BLOCK_MISSED: u8 = 5;
 
-/// The arrival answers a frame of tasks.
+/// The frame answers a frame of tasks.
 pub const OF_TASKS: u8 = 1;
 
-/// The arrival answers a frame of register writes, also one of a single block.
+/// The frame answers a frame of register writes, of one block or of several.
 pub const OF_BLOCKS: u8 = 2;
 
-/// The arrival answers nothing that is awaited.
+/// The frame answers nothing that is awaited.
 pub const STALE: u8 = 3;
 
-/// What an arrival is for a datagram of a task, or for a register block, as C gets it.
+/// The outcome of one datagram of an arriving frame, in C.
 #[repr(C)]
 #[derive(Clone, Copy)]
 pub struct Outcome {
-    /// `INPUTS`, `WRONG_COUNT` or `SENT_AGAIN`; of a register block `BLOCK_WRITTEN`, `BLOCK_MISSED` or `SENT_AGAIN`.
+    /// `INPUTS`, `WRONG_COUNT` or `SENT_AGAIN` for a task's datagram; `BLOCK_WRITTEN`, `BLOCK_MISSED` or `SENT_AGAIN` for a
+    /// register block.
     kind: u8,
-    /// The task, 0 to 7; of a register block 0.
+    /// The task, 0 to 7. Exception: 0 for a register block.
     task: u8,
-    /// The datagram's number in the task, 0 to 15; of a register block 0.
+    /// The datagram's number in the task, 0 to 15. Exception: 0 for a register block.
     datagram: u8,
     reserved: u8,
     /// The expected working counter.
     expected: u16,
-    /// The working counter that it came back with.
+    /// The working counter in the frame.
     got: u16,
-    /// The byte of the frame where its data begin, counted from 0.
+    /// The offset of its data in the frame, in bytes from 0.
     at: u16,
-    /// The bytes of its data, 1 to 1,486.
+    /// The length of its data, 1 to 1,486 bytes.
     length: u16,
-    /// Of a register block the slave's station address; else 0.
+    /// The station address of a register block's slave; 0 for a task's datagram.
     station: u16,
-    /// Of a register block the register where it begins; else 0.
+    /// The first register of a register block; 0 for a task's datagram.
     start: u16,
 }
 
-/// What an arrival is as a whole, as C gets it.
+/// An arriving frame as a whole, in C.
 #[repr(C)]
 #[derive(Clone, Copy)]
 pub struct Arrival {
-    /// The serial that the frame bears: of the sending that it answers, unless it is stale.
+    /// The serial in the frame. Unless the frame is stale, it is the serial of the frame that was sent.
     serial: u64,
-    /// How many datagrams the frame has, each with an outcome; 0 of a stale one.
+    /// The number of datagrams, each of which has an outcome; 0 for a stale frame.
     datagrams: u16,
     /// `OF_TASKS`, `OF_BLOCKS` or `STALE`.
     kind: u8,
     reserved: [u8; 5],
 }
 
-/// The kind that an outcome gives.
+/// Returns the kind of an outcome.
 fn kind_by(outcome: &CoreOutcome) -> u8
     ensures { result ≡ kind_by outcome.now }
 {
@@ -100,7 +102,7 @@ fn kind_by(outcome: &CoreOutcome) -> u8
     }
 }
 
-/// The expected working counter of a task's datagram; 0 where there is none.
+/// Returns the expected working counter of a task's datagram; 0 if the task has no such datagram.
 fn expected_in(places: &Places, task: u8, number: u8) -> u16
     ensures { result ≡ expected_in places.now (task, number) }
 {
@@ -110,7 +112,7 @@ fn expected_in(places: &Places, task: u8, number: u8) -> u16
     }
 }
 
-/// What C gets for a datagram, by its outcome and what came back of it.
+/// Returns the C form of the outcome of a task's datagram.
 fn part_out(places: &Places, outcome: &CoreOutcome, part: &Part<'_>) -> Outcome
     requires { IsInFrame part.now }
     ensures { result ≡ part_outcome_out places.now outcome.now part.now }
@@ -130,7 +132,7 @@ fn part_out(places: &Places, outcome: &CoreOutcome, part: &Part<'_>) -> Outcome
     }
 }
 
-/// What C gets for a register block, by its outcome and what came back of it.
+/// Returns the C form of the outcome of a register block.
 fn block_out(outcome: &CoreOutcome, part: &Part<'_>) -> Outcome
     requires { IsInFrame part.now }
     ensures { result ≡ block_outcome_out outcome.now part.now }
@@ -150,7 +152,8 @@ fn block_out(outcome: &CoreOutcome, part: &Part<'_>) -> Outcome
     }
 }
 
-/// Answers what became of register blocks, of as many as there is room for. A frame has 74 at most, so deep is this recursion.
+/// Writes the outcomes of register blocks to the front of `out`, as many as fit. A frame has at most 74 blocks, which bounds
+/// the recursion.
 fn put_blocks(outcomes: &[CoreOutcome], parts: Parts<'_>, out: &mut [Outcome])
     requires { All IsInFrame parts }
     ensures { out.new ≡ put_first (answered_blocks outcomes.now parts.entry) out.old }
@@ -169,8 +172,8 @@ fn put_blocks(outcomes: &[CoreOutcome], parts: Parts<'_>, out: &mut [Outcome])
     put_blocks(rest, left, others);
 }
 
-/// Counts outcomes one after another, and answers as many of them as there is room for. A frame has 115 at most, so deep is
-/// this recursion.
+/// Counts the outcomes of tasks' datagrams, and writes them to the front of `out`, as many as fit. A frame has at most 115
+/// datagrams, which bounds the recursion.
 fn put_outcomes(
     counts: &mut Counts,
     places: &Places,
@@ -198,7 +201,7 @@ fn put_outcomes(
     put_outcomes(counts, places, rest, parts, others);
 }
 
-/// Reports what an arrival is for each datagram, of as many as there is room for, and counts it of datagrams of tasks.
+/// Writes the outcomes of an arriving frame to the front of `out`, as many as fit, and counts those of tasks' datagrams.
 fn put_arrived(
     counts: &mut Counts,
     places: &Places,
@@ -223,7 +226,7 @@ fn put_arrived(
     }
 }
 
-/// What C gets for an arrival as a whole, with so many outcomes in the core's list.
+/// Returns the C form of an arriving frame whose list of outcomes in the core has `count` items.
 fn arrival_out(arrived: Arrived, count: usize, serial: u64) -> Arrival
     requires { count < 65536 }
     ensures { result ≡ arrival_out arrived count serial }
@@ -243,7 +246,7 @@ fn arrival_out(arrived: Arrived, count: usize, serial: u64) -> Arrival
     }
 }
 
-/// Gives a line bytes that arrived, and reports what they are.
+/// Hands an arriving frame to the core, and reports its outcomes.
 fn arrive(own: &mut Embedded, bytes: &[u8], outcomes: &mut [Outcome], arrival: &mut Arrival) -> u8
     ensures answer { Arrives own.old own.new bytes.now result outcomes.old outcomes.new arrival.old arrival.new }
     ensures busy { result ≢ BUSY }
@@ -271,18 +274,19 @@ fn arrive(own: &mut Embedded, bytes: &[u8], outcomes: &mut [Outcome], arrival: &
     DONE
 }
 
-/// Bytes arrive, any, without the check sequence. Returns `DONE` for each frame that can be read, and `arrival` says what it
-/// answers (this project's profile over frames of ETG.1000.4, 5.3 and 5.4):
+/// Takes an arriving frame: any bytes, without the check sequence. Returns `DONE` for each frame that can be read;
+/// `arrival.kind` says what the frame answers (frames of ETG.1000.4, 5.3 and 5.4; this project's profile):
 ///
-/// - `OF_TASKS`: frames of tasks. `outcomes` has of each datagram, in the frame's order, what it is, and each is counted.
-/// - `OF_BLOCKS`: a frame of register writes. `outcomes` has of each block, also of a single one, what it is.
-/// - `STALE`: nothing that is awaited. `arrival.datagrams` is 0, and `outcomes` is as it was.
+/// - `OF_TASKS`: a frame of tasks. `outcomes` begins with the outcome of each datagram, in the frame's order, and each is
+///   counted.
+/// - `OF_BLOCKS`: a frame of register writes. `outcomes` begins with the outcome of each block.
+/// - `STALE`: nothing that is awaited. `arrival.datagrams` is 0, and `outcomes` is unchanged.
 ///
-/// `outcomes` has as many as there is room for; a frame has at most 115. It allocates nothing. It fails with the first of these,
+/// Outcomes that do not fit are left out; a frame has at most 115. It allocates nothing. Fails with the first of these; then
 /// nothing has changed and nothing is written:
 ///
 /// - `BUSY`, `CLOSED` or `MISUSED`.
-/// - 20 to 27: the bytes can't be read.
+/// - `Short` to `IndexMismatch`, 20 to 27: the bytes are no frame that can be read.
 #[unsafe(no_mangle)]
 pub extern "C" fn zangjulf_arrive(
     handle: &mut Handle,
@@ -295,11 +299,5 @@ pub extern "C" fn zangjulf_arrive(
     ensures busy { result ≡ BUSY → LeavesAll handle.old handle.new outcomes.old outcomes.new arrival.old arrival.new }
     ensures closed { handle.old.holding.value ≡ None → (result ≡ no_line_number handle.old.mark) × (outcomes.new ≡ outcomes.old) × (arrival.new ≡ arrival.old) }
 {
-    let Some(entered) = handle.enter() else {
-        return handle.refusal();
-    };
-    let own = handle.holding.line_mut();
-    let number = arrive(own, bytes, outcomes, arrival);
-    own.calls.end(entered);
-    number
+    with_line!(handle, |own| arrive(own, bytes, outcomes, arrival))
 }

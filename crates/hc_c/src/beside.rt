@@ -1,4 +1,4 @@
-//! Frames beside those of the line: a master's own before it opens one, and other people's on the same wire.
+//! Frames beside those of the line: a master's own, before it opens one, and other people's on the same wire.
 ghost use Rattle.std.specs.Prelude.{◌≡◌, false, true, [], ◌∷◌};
 ghost use Rattle.hc_frames.specs.FrameText.{alias_read, frame_text, station_write};
 ghost use Rattle.hc_frames.specs.declared.limits.TheConstants.{SETUP_SERIAL};
@@ -12,7 +12,7 @@ use hc_frames::limits::MOST_FMMUS;
 /// The first byte of the source address of each frame that the library writes: a locally administered address.
 pub const SOURCE: u8 = 2;
 
-/// What a builder of a frame answered, as C gets it.
+/// Returns the C answer for a frame that was built, and stores its size.
 fn give(built: Result<usize, Room>, size: &mut usize) -> u8
     ensures { AnswersBuilt built result size.new }
 {
@@ -28,9 +28,10 @@ fn give(built: Result<usize, Room>, size: &mut usize) -> u8
     }
 }
 
-/// The frame that reads the configured station alias of the slave at a position of the line, from 0 (APRD of register 0x0012;
-/// ETG.1000.4, auto increment addressing). It is at the front of `out`, and its bytes are 60, in `size`. `DONE`, or `ROOM`
-/// where `out` is shorter, and is as it was. It takes no memory.
+/// Writes the frame that reads the configured station alias of the slave at a position, counted from 0 (APRD of register
+/// 0x0012; ETG.1000.4, auto increment addressing). Returns `DONE`: the frame is at the front of `out`, and `size` is its
+/// length, 60 bytes. It allocates nothing. Fails with `ROOM` if `out` is shorter; then `size` is the length needed, and `out`
+/// is unchanged.
 #[unsafe(no_mangle)]
 pub extern "C" fn zangjulf_alias_read(position: u16, out: &mut [u8], size: &mut usize) -> u8
     ensures { GivesFrame (frame_text SETUP_SERIAL (alias_read position ∷ [])) result size.new out.old out.new }
@@ -38,9 +39,10 @@ pub extern "C" fn zangjulf_alias_read(position: u16, out: &mut [u8], size: &mut 
     give(build_alias_read(out, position), size)
 }
 
-/// The frame that gives the slave at a position of the line, from 0, its station address (APWR of register 0x0010; ETG.1000.4,
-/// auto increment addressing). It is at the front of `out`, and its bytes are 60, in `size`. `DONE`, or `ROOM` where `out` is
-/// shorter, and is as it was. It takes no memory.
+/// Writes the frame that gives a station address to the slave at a position, counted from 0 (APWR of register 0x0010;
+/// ETG.1000.4, auto increment addressing). Returns `DONE`: the frame is at the front of `out`, and `size` is its length, 60
+/// bytes. It allocates nothing. Fails with `ROOM` if `out` is shorter; then `size` is the length needed, and `out` is
+/// unchanged.
 #[unsafe(no_mangle)]
 pub extern "C" fn zangjulf_station_write(
     position: u16,
@@ -53,10 +55,13 @@ pub extern "C" fn zangjulf_station_write(
     give(build_station(out, position, station), size)
 }
 
-/// Returns the frame that switches off the first `count` FMMUs, 1 to 16, of the slave with a station address: an FPWR of
-/// 16 × `count` zeros to register 0x0600 (ETG.1000.4, 6.6). After it a slave without another FMMU in use takes no part in
-/// process data. The frame is at the front of `out`, and its bytes, 60 to 284, are in `size`. `DONE`; `ROOM` if `out` is
-/// shorter, which is then as it was; `MISUSED` for another `count`, and then nothing is written. It takes no memory.
+/// Writes the frame that switches off the first `count` FMMUs, 1 to 16, of the slave with a station address: an FPWR of 16 ×
+/// `count` zeros to register 0x0600 (ETG.1000.4, 6.6). A slave that took it and uses no other FMMU takes no part in process
+/// data. Returns `DONE`: the frame is at the front of `out`, and `size` is its length, 60 to 284 bytes. It allocates nothing.
+/// Fails with one of these; then `out` is unchanged:
+///
+/// - `MISUSED`: `count` is not 1 to 16. `size` is unchanged too.
+/// - `ROOM`: `out` is shorter than the frame. `size` is the length needed.
 #[unsafe(no_mangle)]
 pub extern "C" fn zangjulf_fmmu_off(station: u16, count: u8, out: &mut [u8], size: &mut usize) -> u8
     ensures given { is_fmmu_count count ≡ true → GivesFmmuOff station count result size.new out.old out.new }
@@ -68,9 +73,9 @@ pub extern "C" fn zangjulf_fmmu_off(station: u16, count: u8, out: &mut [u8], siz
     give(build_fmmu_off(out, station, count), size)
 }
 
-/// Whether a frame may be one that the library wrote, as it was sent or as it came back: its EtherType is 0x88A4, and its
-/// source address begins with 2. A master's own EtherCAT frames have another first byte there, with bit 1 set, as slaves set
-/// that bit of what passes (6 for instance).
+/// Returns whether a frame may be one that the library wrote, before or after it passed the slaves: its EtherType is 0x88A4,
+/// and its source address begins with 2. A master's own EtherCAT frames need another first byte there, with bit 1 set, for
+/// example 6. Slaves set bit 1 of that byte.
 #[unsafe(no_mangle)]
 pub extern "C" fn zangjulf_is_mine(frame: &[u8]) -> bool
     ensures { result ≡ is_mine frame.now }

@@ -1,10 +1,10 @@
-//! How often each datagram was sent, and what arrivals were for it, since the line was opened.
+//! Counters of each datagram since the line was opened: its sendings, and the outcomes of its arrivals.
 ghost use Rattle.std.specs.Prelude.{◌≡◌, ◌≢◌, IfSome, None};
 ghost use Rattle.hc_c.specs.Counts.{counters_number, counters_of, judged_as};
 ghost use Rattle.hc_c.specs.Handles.{HoldsAsBefore, IfServed, no_line_number};
 
 use crate::arriving::{INPUTS, WRONG_COUNT};
-use crate::handle::Handle;
+use crate::handle::{Handle, with_line};
 use crate::numbers::{DONE, NOTHING};
 use hc_events::sending::{Named, Sending};
 use hc_records::limits::{MOST_DATAGRAMS, TASKS};
@@ -12,21 +12,21 @@ use hc_records::slots::{SLOTS, slot_number};
 use std::alloc::{AllocError, Global};
 use std::marker::Model;
 
-/// How often a datagram was sent, and what arrivals were for it, as C gets it. Each number stops at its last one.
+/// The counters of one datagram, in C. A counter that reaches its largest number stays there.
 #[repr(C)]
 #[derive(Clone, Copy)]
 pub struct Counters {
-    /// The sendings that had it.
+    /// The frames sent with it.
     sent: u64,
-    /// The arrivals whose data its task reads.
+    /// The arrivals with the right working counter, whose data its task reads.
     good: u64,
-    /// Those that came back with another working counter.
+    /// The arrivals with a wrong working counter.
     wrong: u64,
-    /// Those that came after it was sent again.
+    /// The arrivals after it was sent again.
     again: u64,
 }
 
-/// The counters with one more arrival of a kind.
+/// Returns the counters with one more arrival of a kind.
 fn judged_as(kind: u8, counters: Counters) -> Counters
     ensures { result ≡ judged_as kind counters }
 {
@@ -86,7 +86,7 @@ impl Counts {
     ghost use Rattle.std.specs.Prelude.{◌≡◌, IfOk, fold};
     ghost use Rattle.hc_c.specs.Counts.{all_counted_sent, counters_of, opening_counts, judged_as, sent_once, with_counters};
 
-    /// No datagram was sent yet. `AllocError` where memory was refused; no other call takes any.
+    /// Returns counters that are all zero. `AllocError` if an allocation fails; no later call allocates.
     pub fn new(alloc: Global) -> Result<Counts, AllocError>
         ensures { IfOk result (λ counts. counts ≡ opening_counts) }
     {
@@ -100,7 +100,7 @@ impl Counts {
         Ok(Counts { counts })
     }
 
-    /// The counters of a datagram; zeros where a line has no such datagram.
+    /// Returns the counters of a datagram; zeros for a number that no datagram of a line can have.
     pub fn of(&self, task: u8, number: u8) -> Counters
         ensures { result ≡ counters_of self.now task number }
     {
@@ -115,7 +115,7 @@ impl Counts {
         }
     }
 
-    /// Replaces the counters of a datagram, where a line can have it.
+    /// Replaces the counters of a datagram. A number that no datagram of a line can have is ignored.
     fn put(&mut self, task: u8, number: u8, counters: Counters)
         ensures { self.new ≡ with_counters self.old task number counters }
     {
@@ -125,7 +125,7 @@ impl Counts {
         }
     }
 
-    /// An arrival is of a kind for a datagram.
+    /// Counts an arrival of a kind for a datagram.
     pub fn count_arrival(&mut self, kind: u8, task: u8, number: u8)
         ensures { self.new ≡ with_counters self.old task number (judged_as kind (counters_of self.old task number)) }
     {
@@ -135,7 +135,7 @@ impl Counts {
         }
     }
 
-    /// A datagram is sent.
+    /// Counts a sending of a datagram.
     fn count_sent(&mut self, named: Named)
         ensures { self.new ≡ sent_once self.old named }
     {
@@ -159,7 +159,7 @@ impl Counts {
         );
     }
 
-    /// The datagrams of a frame are sent. A frame has 115 at most, so deep is this recursion.
+    /// Counts a sending of each datagram of a frame. A frame has at most 115, which bounds the recursion.
     fn count_datagrams(&mut self, datagrams: &[Named])
         ensures { self.new ≡ fold sent_once self.old datagrams.now }
     {
@@ -170,7 +170,7 @@ impl Counts {
         self.count_datagrams(rest);
     }
 
-    /// Frames are sent. A sending has 128 at most, so deep is this recursion.
+    /// Counts a sending of each datagram of these frames. A sending has at most 128 frames, which bounds the recursion.
     pub fn count_frames(&mut self, frames: &[Sending])
         ensures { self.new ≡ all_counted_sent self.old frames.now }
     {
@@ -182,9 +182,12 @@ impl Counts {
     }
 }
 
-/// How often the datagram of a task with a number was sent, and what arrivals were for it, since the line was opened; no edit
-/// sets any of it back, though the datagram with that number may be another one after it. `DONE`; `NOTHING` where the task is
-/// over 7, or the number over 15; `BUSY`, `CLOSED` or `MISUSED`. Unless it is done `counters` is as it was. It takes no memory.
+/// Reads the counters of a task's datagram since the line was opened. Edits leave the counters, though after one the datagram
+/// with that number may be another one. Returns `DONE`. It allocates nothing. Fails with one of these; then `counters` is
+/// unchanged:
+///
+/// - `BUSY`, `CLOSED` or `MISUSED`.
+/// - `NOTHING`: the task is over 7, or the number over 15.
 #[unsafe(no_mangle)]
 pub extern "C" fn zangjulf_counters(
     handle: &mut Handle,
@@ -198,16 +201,12 @@ pub extern "C" fn zangjulf_counters(
     ensures unwritten { result ≢ DONE → counters.new ≡ counters.old }
     ensures closed { handle.old.holding.value ≡ None → result ≡ no_line_number handle.old.mark }
 {
-    let Some(entered) = handle.enter() else {
-        return handle.refusal();
-    };
-    let own = handle.holding.line_mut();
-    let number = if task < TASKS && usize::from(datagram) < MOST_DATAGRAMS {
-        *counters = own.counts.of(task, datagram);
-        DONE
-    } else {
-        NOTHING
-    };
-    own.calls.end(entered);
-    number
+    with_line!(handle, |own| {
+        if task < TASKS && usize::from(datagram) < MOST_DATAGRAMS {
+            *counters = own.counts.of(task, datagram);
+            DONE
+        } else {
+            NOTHING
+        }
+    })
 }

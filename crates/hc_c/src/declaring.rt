@@ -7,14 +7,14 @@ ghost use Rattle.hc_c.specs.Handles.{HoldsAsBefore, IfServedBoth, no_line_number
 
 use crate::editing::{Cost, serve};
 use crate::embedded::Embedded;
-use crate::handle::Handle;
+use crate::handle::{Handle, with_line};
 use crate::numbers::{MEMORY, PROJECT};
 use hc_project::read_group;
 use hc_records::edit::Edit;
 use hc_records::faults::ProjectFault;
 use std::alloc::Global;
 
-/// Declares the group of a text, where C doesn't only ask: `DONE`, why it is refused, or the fault of the text.
+/// Declares the group of a text, unless C only asks. Returns `DONE`, the fault of the edit, or the fault of the text.
 fn serve_text(own: &mut Embedded, alloc: Global, text: &[u8], asks: bool, cost: &mut Cost) -> u8
     ensures { Declares (group_in text.now) own.old own.new asks result cost.old cost.new }
 {
@@ -25,14 +25,15 @@ fn serve_text(own: &mut Embedded, alloc: Global, text: &[u8], asks: bool, cost: 
     }
 }
 
-/// Declares the group of a text after the others, and it is absent; if `asks`, only whether it could is reported. The text is a
-/// project's with exactly one group and no mandatory slave. Returns `DONE`, and `cost` has the epoch that begins with the edit. It
-/// fails with one of these, nothing has changed and `cost` is as it was:
+/// Declares the group of a text, after the declared ones; it is absent from the line. With `asks` nothing is declared, and only
+/// the answer is returned. The text is a project with exactly one group and no mandatory slave. Returns `DONE`, and `cost` has
+/// the epoch that begins with the edit. Fails with one of these; then nothing has changed and `cost` is unchanged:
 ///
-/// - the lowest of the faults 13 and 31 to 35 that holds.
-/// - 201 to 210, or after these 212 if it is another project's: the text is no group's. These are judged first.
-/// - `MEMORY`: an allocation failed.
 /// - `BUSY`, `CLOSED` or `MISUSED`.
+/// - 201 to 210, the lowest fault of the text, or after these 212 if it is a project but not of one group. The text is judged
+///   first.
+/// - The lowest that holds of `EpochsSpent`, 13, and `AliasTaken` to `TooManySlaves`, 31 to 35.
+/// - `MEMORY`: an allocation failed.
 #[unsafe(no_mangle)]
 pub extern "C" fn zangjulf_declare(
     alloc: Global,
@@ -46,11 +47,5 @@ pub extern "C" fn zangjulf_declare(
     ensures busy { result ≡ BUSY → HoldsAsBefore handle.old handle.new × (cost.new ≡ cost.old) }
     ensures closed { handle.old.holding.value ≡ None → (result ≡ no_line_number handle.old.mark) × (cost.new ≡ cost.old) }
 {
-    let Some(entered) = handle.enter() else {
-        return handle.refusal();
-    };
-    let own = handle.holding.line_mut();
-    let number = serve_text(own, alloc, text, asks, cost);
-    own.calls.end(entered);
-    number
+    with_line!(handle, |own| serve_text(own, alloc, text, asks, cost))
 }

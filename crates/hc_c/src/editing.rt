@@ -1,4 +1,4 @@
-//! Edits of the line, and what one would cost.
+//! Edits of the line, and their cost.
 ghost use Rattle.std.specs.Prelude.{◌≡◌, ◌≢◌, ◌∷◌, ℕ, Err, IfErr, IfOk, IfSome, None, Ok, OnErr, OnOk, false, is_some, true};
 ghost use Rattle.hc_records.specs.declared.edit.Edit.TheVariants.{Connect, Disconnect, Move, Remap};
 ghost use Rattle.hc_records.specs.declared.faults.EditFault.TheVariants.{Memory, TooManyDatagrams};
@@ -14,7 +14,7 @@ ghost use Rattle.hc_c.specs.Edits.{CostsEdit, IsCost, Serves, prepared_waits};
 ghost use Rattle.hc_c.specs.Handles.{HoldsAsBefore, IfServedBoth, no_line_number};
 
 use crate::embedded::Embedded;
-use crate::handle::Handle;
+use crate::handle::{Handle, with_line};
 use crate::numbers::{DONE, MEMORY};
 use hc_core::prepared::CoreEdit;
 use hc_events::faults::CoreFault;
@@ -24,27 +24,27 @@ use hc_records::faults::EditFault;
 use hc_records::items::Items;
 use std::alloc::Global;
 
-/// What an edit does, or would do, as C gets it.
+/// The effect of an edit, in C.
 #[repr(C)]
 #[derive(Clone, Copy)]
 pub struct Cost {
     /// The epoch that begins with it.
     epoch: u32,
-    /// How many spans of touched tasks aren't settled; an emptied task counts one.
+    /// The number of spans of touched tasks that are not settled. A task that loses its last datagram counts one.
     recut: u32,
-    /// How many register blocks of the new line weren't blocks with the same bytes at the same register of the same slave
-    /// in the old line.
+    /// The number of register blocks of the new line that differ from the old line's: the old line has no block with these
+    /// bytes at this register of this slave.
     moved: u32,
-    /// How many variables are elsewhere, appear or go.
+    /// The number of variables whose place differs, appears or is gone.
     places: u32,
-    /// The lowest task, 0 to 7, that would need more than 16 datagrams, of an edit that fails for that; 0 of one that is done.
+    /// The lowest task that would need more than 16 datagrams, if the edit fails with `OVER_LIMIT`; otherwise 0.
     crowded: u8,
-    /// The tasks that will wait once each slave that comes with the edit is cleared: bit t is task t's.
+    /// The tasks that will wait once each slave that comes with the edit is cleared: bit t stands for task t.
     waits: u8,
     reserved: [u8; 2],
 }
 
-/// What a prepared edit would do, with the tasks that will wait.
+/// Returns the effect of a prepared edit, with the tasks that will wait.
 fn cost_of(edit: &PreparedEdit, waits: u8) -> Cost
     ensures cost { IsCost edit.now.old edit.now.new waits result }
     ensures prepared { IsPrepared edit.now }
@@ -61,8 +61,8 @@ fn cost_of(edit: &PreparedEdit, waits: u8) -> Cost
     }
 }
 
-/// Reports what a prepared edit would do, or returns why it is refused. It is reported where it lies: it is large, and each move
-/// of it a copy.
+/// Writes the effect of a prepared edit, or returns its fault. The prepared edit is large and a move would copy it, so it is
+/// read in place.
 fn give(prepared: &Result<CoreEdit, EditFault>, cost: &mut Cost) -> Result<(), EditFault>
     ensures cost { IfOk prepared.now (λ core_edit. IsCost (state_of core_edit.core.history) core_edit.edit.new (prepared_waits core_edit) cost.new) }
     ensures prepared { IfOk prepared.now (λ core_edit. IsPrepared core_edit.edit × (core_edit.edit.old ≡ state_of core_edit.core.history)) }
@@ -79,7 +79,7 @@ fn give(prepared: &Result<CoreEdit, EditFault>, cost: &mut Cost) -> Result<(), E
     }
 }
 
-/// Works an edit out and reports what it would do, or returns why it is refused.
+/// Prepares an edit and writes its effect, or returns its fault.
 fn ask(own: &mut Embedded, alloc: Global, edit: &Edit, cost: &mut Cost) -> Result<(), EditFault>
     ensures accepted { OnOk result (edited (state_of (embedded_history own.old)) edit.now ≡ Ok (state_after (state_of (embedded_history own.old)) edit.now)) }
     ensures cost { OnOk result (CostsEdit (embedded_history own.old) edit.now cost.new) }
@@ -92,7 +92,7 @@ fn ask(own: &mut Embedded, alloc: Global, edit: &Edit, cost: &mut Cost) -> Resul
     give(&prepared, cost)
 }
 
-/// Works an edit out, carries it out and reports what it does, or returns why it is refused.
+/// Prepares an edit, carries it out and writes its effect, or returns its fault.
 fn carry(own: &mut Embedded, alloc: Global, edit: &Edit, cost: &mut Cost) -> Result<(), EditFault>
     ensures accepted { OnOk result (edited (state_of (embedded_history own.old)) edit.now ≡ Ok (state_after (state_of (embedded_history own.old)) edit.now)) }
     ensures cost { OnOk result (CostsEdit (embedded_history own.old) edit.now cost.new) }
@@ -113,7 +113,7 @@ fn carry(own: &mut Embedded, alloc: Global, edit: &Edit, cost: &mut Cost) -> Res
     }
 }
 
-/// The number of a refusal; if a task would need too many datagrams it is reported.
+/// Returns the number of a fault. For a task that would need too many datagrams it writes that task to `cost`.
 fn refuse(fault: EditFault, cost: &mut Cost) -> u8
     ensures number { result ≡ core_fault_number (edit_refusal fault) }
     ensures crowds { (task : ℕ) → fault ≡ TooManyDatagrams task → cost.new ≡ record cost.old { crowded = task } }
@@ -125,7 +125,7 @@ fn refuse(fault: EditFault, cost: &mut Cost) -> u8
     CoreFault::from(fault).number()
 }
 
-/// Works an edit out and reports what it does, or returns why it is refused; it is carried out unless C only asks.
+/// Prepares an edit and writes its effect, or returns its fault. The edit is carried out unless C only asks.
 fn work_out(
     own: &mut Embedded,
     alloc: Global,
@@ -149,7 +149,7 @@ fn work_out(
     }
 }
 
-/// Serves an edit: `DONE`, or why it is refused.
+/// Carries out an edit, or only asks, and returns `DONE` or the fault's number.
 pub(crate) fn serve(
     own: &mut Embedded,
     alloc: Global,
@@ -165,8 +165,8 @@ pub(crate) fn serve(
     }
 }
 
-/// Serves a remap. It is judged before its indexes are copied, so that a fault which it has by itself is answered whatever
-/// memory does.
+/// Carries out a remap, or only asks. The remap is judged before its indexes are copied, so a failed allocation hides no fault
+/// of its own.
 fn serve_remap(
     own: &mut Embedded,
     alloc: Global,
@@ -194,9 +194,13 @@ fn serve_remap(
     }
 }
 
-/// The group with an alias joins the line; if `asks`, only what that would cost is reported. Returns `DONE`, and `cost` says what
-/// the edit does. It fails with the lowest of the faults 1, 2, 12 and 13 that holds; with `MEMORY`, but never in the place of 1 or
-/// 2; or with `BUSY`, `CLOSED` or `MISUSED`. Then nothing has changed, and of `cost` only `crowded` is written, with 12.
+/// Connects the group with an alias. With `asks` nothing changes, and only the effect is reported. Returns `DONE`, and `cost`
+/// is the effect. Fails with one of these; then nothing has changed, and `cost` is unchanged but for `crowded` with
+/// `OVER_LIMIT`:
+///
+/// - `BUSY`, `CLOSED` or `MISUSED`.
+/// - The lowest that holds of `UnknownAlias`, 1, `AlreadyPresent`, 2, `OVER_LIMIT`, 12, and `EpochsSpent`, 13.
+/// - `MEMORY`: an allocation failed. Exception: 1 and 2 are returned whatever memory does.
 #[unsafe(no_mangle)]
 pub extern "C" fn zangjulf_connect(
     alloc: Global,
@@ -210,19 +214,19 @@ pub extern "C" fn zangjulf_connect(
     ensures busy { result ≡ BUSY → HoldsAsBefore handle.old handle.new × (cost.new ≡ cost.old) }
     ensures closed { handle.old.holding.value ≡ None → (result ≡ no_line_number handle.old.mark) × (cost.new ≡ cost.old) }
 {
-    let Some(entered) = handle.enter() else {
-        return handle.refusal();
-    };
-    let own = handle.holding.line_mut();
-    let edit = Edit::Connect(alias);
-    let number = serve(own, alloc, &edit, asks, cost);
-    own.calls.end(entered);
-    number
+    with_line!(handle, |own| {
+        let edit = Edit::Connect(alias);
+        serve(own, alloc, &edit, asks, cost)
+    })
 }
 
-/// The group with an alias leaves the line; if `asks`, only what that would cost is reported. Returns `DONE`, and `cost` says what
-/// the edit does. It fails with the lowest of the faults 1, 3, 4, 12 and 13 that holds; with `MEMORY`, but never in the place of
-/// 1, 3 or 4; or with `BUSY`, `CLOSED` or `MISUSED`. Then nothing has changed, and of `cost` only `crowded` is written, with 12.
+/// Disconnects the group with an alias. With `asks` nothing changes, and only the effect is reported. Returns `DONE`, and
+/// `cost` is the effect. Fails with one of these; then nothing has changed, and `cost` is unchanged but for `crowded` with
+/// `OVER_LIMIT`:
+///
+/// - `BUSY`, `CLOSED` or `MISUSED`.
+/// - The lowest that holds of `UnknownAlias`, 1, `NotPresent`, 3, `Mandatory`, 4, `OVER_LIMIT`, 12, and `EpochsSpent`, 13.
+/// - `MEMORY`: an allocation failed. Exception: 1, 3 and 4 are returned whatever memory does.
 #[unsafe(no_mangle)]
 pub extern "C" fn zangjulf_disconnect(
     alloc: Global,
@@ -236,20 +240,20 @@ pub extern "C" fn zangjulf_disconnect(
     ensures busy { result ≡ BUSY → HoldsAsBefore handle.old handle.new × (cost.new ≡ cost.old) }
     ensures closed { handle.old.holding.value ≡ None → (result ≡ no_line_number handle.old.mark) × (cost.new ≡ cost.old) }
 {
-    let Some(entered) = handle.enter() else {
-        return handle.refusal();
-    };
-    let own = handle.holding.line_mut();
-    let edit = Edit::Disconnect(alias);
-    let number = serve(own, alloc, &edit, asks, cost);
-    own.calls.end(entered);
-    number
+    with_line!(handle, |own| {
+        let edit = Edit::Disconnect(alias);
+        serve(own, alloc, &edit, asks, cost)
+    })
 }
 
-/// An area, counted from 0, of the present slave with a station address gets the PDOs with these indexes assigned, in this order;
-/// if `asks`, only what that would cost is reported. Returns `DONE`, and `cost` says what the edit does. It fails with the lowest
-/// of the faults 5 to 7 and 9 to 13 that holds; with `MEMORY`, but never in the place of 5 to 11; or with `BUSY`, `CLOSED` or
-/// `MISUSED`. Then nothing has changed, and of `cost` only `crowded` is written, with 12.
+/// Assigns the PDOs with these indexes, in this order, to an area, counted from 0, of the present slave with a station address.
+/// With `asks` nothing changes, and only the effect is reported. Returns `DONE`, and `cost` is the effect. Fails with one of
+/// these; then nothing has changed, and `cost` is unchanged but for `crowded` with `OVER_LIMIT`:
+///
+/// - `BUSY`, `CLOSED` or `MISUSED`.
+/// - The lowest that holds of the faults 5 to 7 and 9 to 13: `UnknownStation`, `Absent`, `NoSuchArea`, `UnknownPdo`,
+///   `RepeatedPdo`, `AreaTooBig`, `OVER_LIMIT` and `EpochsSpent`.
+/// - `MEMORY`: an allocation failed. Exception: 5 to 11 are returned whatever memory does.
 #[unsafe(no_mangle)]
 pub extern "C" fn zangjulf_remap(
     alloc: Global,
@@ -265,19 +269,20 @@ pub extern "C" fn zangjulf_remap(
     ensures busy { result ≡ BUSY → HoldsAsBefore handle.old handle.new × (cost.new ≡ cost.old) }
     ensures closed { handle.old.holding.value ≡ None → (result ≡ no_line_number handle.old.mark) × (cost.new ≡ cost.old) }
 {
-    let Some(entered) = handle.enter() else {
-        return handle.refusal();
-    };
-    let own = handle.holding.line_mut();
-    let number = serve_remap(own, alloc, station, area, pdos, asks, cost);
-    own.calls.end(entered);
-    number
+    with_line!(
+        handle,
+        |own| serve_remap(own, alloc, station, area, pdos, asks, cost)
+    )
 }
 
-/// An area, counted from 0, of the present slave with a station address moves to a task; if `asks`, only what that would cost is
-/// reported. Returns `DONE`, and `cost` says what the edit does. It fails with the lowest of the faults 5 to 8, 12 and 13 that
-/// holds; with `MEMORY`, but never in the place of 5 to 8; or with `BUSY`, `CLOSED` or `MISUSED`. Then nothing has changed, and of
-/// `cost` only `crowded` is written, with 12.
+/// Moves an area, counted from 0, of the present slave with a station address to a task. With `asks` nothing changes, and only
+/// the effect is reported. Returns `DONE`, and `cost` is the effect. Fails with one of these; then nothing has changed, and
+/// `cost` is unchanged but for `crowded` with `OVER_LIMIT`:
+///
+/// - `BUSY`, `CLOSED` or `MISUSED`.
+/// - The lowest that holds of the faults 5 to 8, 12 and 13: `UnknownStation`, `Absent`, `NoSuchArea`, `NoSuchTask`,
+///   `OVER_LIMIT` and `EpochsSpent`.
+/// - `MEMORY`: an allocation failed. Exception: 5 to 8 are returned whatever memory does.
 #[unsafe(no_mangle)]
 pub extern "C" fn zangjulf_move_area(
     alloc: Global,
@@ -293,16 +298,12 @@ pub extern "C" fn zangjulf_move_area(
     ensures busy { result ≡ BUSY → HoldsAsBefore handle.old handle.new × (cost.new ≡ cost.old) }
     ensures closed { handle.old.holding.value ≡ None → (result ≡ no_line_number handle.old.mark) × (cost.new ≡ cost.old) }
 {
-    let Some(entered) = handle.enter() else {
-        return handle.refusal();
-    };
-    let own = handle.holding.line_mut();
-    let edit = Edit::Move {
-        station,
-        area,
-        task,
-    };
-    let number = serve(own, alloc, &edit, asks, cost);
-    own.calls.end(entered);
-    number
+    with_line!(handle, |own| {
+        let edit = Edit::Move {
+            station,
+            area,
+            task,
+        };
+        serve(own, alloc, &edit, asks, cost)
+    })
 }

@@ -1,25 +1,25 @@
-//! What an open handle holds.
+//! The line of an open handle.
 
-use crate::calls::Calls;
 use crate::counting::Counts;
+use crate::handle::calls::Calls;
 use crate::seat::ends::OwnerEnds;
 use crate::spare::Spare;
 use hc_core::keeping::Core;
 
-/// A core, where each task's last sending begins, what was counted, the owner's ends of the tasks' seats, lists that its calls
-/// use again, and whether a call runs.
+/// An opened line: its core, the counters, the owner's ends of the seats, lists that calls use again, and the guard of its
+/// calls.
 pub struct Embedded {
     /// The core.
     pub core: Core,
-    /// The first serial of each task's last sending, 0 before one.
+    /// The first serial of each task's last sending, 0 before the first.
     pub sent_from: [u64; 8],
-    /// How often each datagram was sent, and what arrivals were for it.
+    /// The counters of each datagram.
     pub counts: Counts,
     /// The owner's ends of the tasks' seats.
     pub ends: OwnerEnds,
-    /// The lists.
+    /// Lists that calls use again.
     pub spare: Spare,
-    /// The guard.
+    /// The guard: one call runs at a time.
     pub calls: Calls,
 }
 

@@ -1,4 +1,4 @@
-//! What C keeps between two calls.
+//! The handle of a line, which C stores between two calls.
 ghost use Rattle.std.specs.Prelude.{◌≡◌, ◌==◌, IfSome, IsSome, is_some};
 ghost use Rattle.std.specs.declared.option.Option.{Option};
 ghost use Rattle.std.specs.declared.option.Option.TheVariants.{None, Some};
@@ -7,17 +7,18 @@ ghost use Rattle.hc_c.specs.declared.embedded.Embedded.{Embedded};
 ghost use Rattle.hc_c.specs.declared.handle.TheConstants.{OPEN};
 ghost use Rattle.hc_c.specs.declared.numbers.TheConstants.{BUSY};
 
+pub mod calls;
 pub mod unboxed;
 
-use crate::calls::Entered;
 use crate::embedded::Embedded;
 use crate::numbers::{BUSY, CLOSED, MISUSED};
+use calls::Entered;
 use std::alloc::Global;
 use std::marker::Model;
 use std::mem;
 use unboxed::Unboxed;
 
-/// An opened line by where it lies in memory, or none. Its type names no other type of ours, so that C may have it.
+/// The address of an opened line, or none. The type names no other type of this crate, so that C can have it.
 #[repr(C)]
 #[derive(Drop)]
 pub struct Holding {
@@ -34,7 +35,7 @@ impl Holding {
     ghost use types.Logic.{sem};
     ghost use Rattle.hc_c.specs.Lending.{LendsLine};
 
-    /// A handle without a line: a null pointer.
+    /// Returns a null pointer: no line is held.
     fn nothing(alloc: Global) -> Holding
         ensures { result.value ≡ None }
     {
@@ -44,7 +45,7 @@ impl Holding {
         }
     }
 
-    /// A handle of the opened line, from its place in memory.
+    /// Returns a pointer to an opened line, from its address.
     fn of(own: Unboxed<Embedded, Global>) -> Holding
         ensures { result.value ≡ Some own.value }
     {
@@ -55,7 +56,7 @@ impl Holding {
         }
     }
 
-    /// The opened line's place in memory. The handle must hold a line.
+    /// Returns the address of the opened line. A line must be held.
     fn into_unboxed(self) -> Unboxed<Embedded, Global>
         requires { IsSome self.value }
         ensures { self.value ≡ Some result.value }
@@ -67,8 +68,17 @@ impl Holding {
         }
     }
 
-    /// The opened line, where it lies: no word of the handle is written.
-    pub fn line_mut(&mut self) -> &mut Embedded
+    /// Lends the opened line to the call that runs. A call that did not begin has no `Entered`, and cannot take the line.
+    pub fn line(&mut self, _entered: &Entered) -> &mut Embedded
+        requires { IsSome self.old.value }
+        ensures* writes_back { sem 𝓛 (LendsLine self.entry result) }
+        ensures value { self.old.value ≡ Some result.now }
+    {
+        self.line_mut()
+    }
+
+    /// Lends the opened line in place: no word of the handle is written.
+    fn line_mut(&mut self) -> &mut Embedded
         requires { IsSome self.old.value }
         ensures* writes_back { sem 𝓛 (LendsLine self.entry result) }
         ensures value { self.old.value ≡ Some result.now }
@@ -77,10 +87,10 @@ impl Holding {
     }
 }
 
-/// The mark of an open handle: the letters "zangjulf". The mark of a closed one is 0, and with any other the handle is none.
+/// The mark of an open handle: the letters "zangjulf". A closed handle has the mark 0. With any other mark it is not a handle.
 pub const OPEN: u64 = 0x7a61_6e67_6a75_6c66;
 
-/// What C keeps: zeros if no line is open.
+/// The two words that C stores. They are zeros if no line is open.
 #[repr(C)]
 #[derive(Drop)]
 pub struct Handle {
@@ -92,7 +102,7 @@ pub struct Handle {
 impl Handle {
     ghost use Rattle.hc_c.specs.Handles.{HoldsAsBefore, no_line_number};
 
-    /// The handle of an opened line.
+    /// Returns the handle of an opened line.
     pub fn of(own: Box<Embedded, Global>) -> Handle
         ensures { result.holding.value ≡ Some own.value }
     {
@@ -102,7 +112,7 @@ impl Handle {
         }
     }
 
-    /// Takes the opened line out of the handle, which is closed then. The handle must hold a line.
+    /// Takes the opened line out of the handle, which is then closed. The handle must hold a line.
     pub fn take(&mut self, alloc: Global) -> Box<Embedded, Global>
         requires { IsSome self.old.holding.value }
         ensures taken { self.old.holding.value ≡ Some result.value }
@@ -116,8 +126,8 @@ impl Handle {
         was.holding.into_unboxed().into_box()
     }
 
-    /// Begins a call on the line that `Holding::line_mut` lends; `Calls::end` ends it. Returns none if the handle holds no line or
-    /// another call with it runs: `refusal` says which.
+    /// Begins a call on the line that `Holding::line` lends; `Calls::end` ends it. Returns `None` if the handle holds no line
+    /// or another call with it runs: `refusal` tells them apart.
     pub fn enter(&mut self) -> Option<Entered>
         ensures line { IfSome result (λ _. IsSome self.new.holding.value) }
         ensures unchanged { HoldsAsBefore self.old self.new }
@@ -129,8 +139,8 @@ impl Handle {
         self.holding.line_mut().calls.begin()
     }
 
-    /// The answer to a call that did not begin: `BUSY` if the handle holds a line, `CLOSED` if it is closed, and `MISUSED` if it
-    /// is none.
+    /// Returns the answer of a call that did not begin: `BUSY` if the handle holds a line, `CLOSED` if it is closed, `MISUSED`
+    /// if it was never zeroed.
     pub fn refusal(&self) -> u8
         ensures line { IsSome self.now.holding.value → result ≡ BUSY }
         ensures closed { self.now.holding.value ≡ None → result ≡ no_line_number self.now.mark }
@@ -145,15 +155,30 @@ impl Handle {
     }
 }
 
-/// What may go to another thread.
+/// Makes a call on the line of a handle: the call begins, the expression after `|own|` is evaluated with the line as `own`, and
+/// the call ends. If the call does not begin, the function returns `Handle::refusal`.
+macro_rules! with_line {
+    ($handle:ident, |$own:ident| $answer:expr) => {{
+        let Some(entered) = $handle.enter() else {
+            return $handle.refusal();
+        };
+        let $own = $handle.holding.line(&entered);
+        let answer = $answer;
+        $own.calls.end(entered);
+        answer
+    }};
+}
+
+pub(crate) use with_line;
+
+/// Values that may move to another thread.
 pub fn crosses<T: Send>(it: T) -> T
     ensures { result ≡ it }
 {
     it
 }
 
-/// The line that a handle holds may go to another thread between two calls, and its memory may be given back there: its type
-/// is `Send`.
+/// Shows by its type that an opened line is `Send`: between two calls it may move to another thread, and be freed there.
 pub fn line_crosses(own: Box<Embedded, Global>) -> Box<Embedded, Global>
     ensures { result ≡ own }
 {

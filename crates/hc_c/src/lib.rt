@@ -1,14 +1,12 @@
-//! The core as C has it: functions over a handle that C keeps between two calls. Each one's contract says, over what the
-//! handle holds before and after, what the core's own call says. What a call asks of its caller and C may break is tested,
-//! and answered with a number of its own (`numbers`); a closed handle is answered, and never followed.
+//! The library for C: functions over a handle that C stores between two calls. `include/zangjulf.h` declares them. The contract
+//! of each says, over the line that the handle holds before and after, what the contract of the core's own call says.
 //!
-//! `include/zangjulf.h` gives C of them. C zeroes a handle before its first call, and then nothing but these calls writes it, one
-//! at a time.
+//! A precondition that C can violate is checked, and has an answer of its own (`numbers`). A closed handle is detected and
+//! never dereferenced. C sets a handle to zeros before its first call; after that only these calls write it, one at a time.
 #![tactic(auto)]
 
 mod arriving;
 mod beside;
-mod calls;
 mod cleared_slaves;
 mod counting;
 mod declaring;

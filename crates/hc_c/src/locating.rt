@@ -1,4 +1,4 @@
-//! Where a text is no project.
+//! The place in a text at which it is no project.
 ghost use Rattle.std.specs.Prelude.{◌≡◌, ◌≢◌};
 ghost use Rattle.hc_c.specs.Locations.{Locates, index_or_none, key_item, key_number, location_out, position_out, located_out};
 
@@ -7,47 +7,47 @@ use hc_project::{Found, Key, Location as ProjectLocation, Place, locate};
 use hc_records::faults::ProjectFault;
 use std::alloc::Global;
 
-/// Of an index: there is none.
+/// The index that means none.
 pub const NOWHERE: usize = usize::MAX;
 
-/// A place of a project's text, as C gets it. Indexes count from 0 in the order of the text, and are `NOWHERE` where the
-/// place lies in none.
+/// A place in a project's text, in C. Indexes count from 0 in the order of the text. An index is `NOWHERE` if the place lies in
+/// no such thing.
 #[repr(C)]
 #[derive(Clone, Copy)]
 pub struct LocatedPlace {
     /// The group, counted from 1 as the text declares them; 0 is the top of the document.
     group: usize,
-    /// The slave in its array.
+    /// The slave, by its index in its array.
     slave: usize,
-    /// The area of the slave.
+    /// The area, by its index in the slave.
     area: usize,
-    /// The PDO that the area offers.
+    /// The PDO that the area offers, by its index.
     pdo: usize,
-    /// The item of an array that the key means.
+    /// The item of an array, if the key means one.
     item: usize,
-    /// The group's alias, 0 at the top and where it can't be read.
+    /// The group's alias; 0 at the top, or if it cannot be read.
     alias: u16,
-    /// The slave's station address, 0 where the place lies in no slave and where it can't be read.
+    /// The slave's station address; 0 if the place lies in no slave, or if it cannot be read.
     station: u16,
-    /// What the place names there, 0 to 17.
+    /// The key at the place, 0 to 17.
     key: u8,
 }
 
-/// Where a text is no project, as C gets it.
+/// The location of a text's fault, in C.
 #[repr(C)]
 #[derive(Clone, Copy)]
 pub struct Location {
-    /// The line, counted from 1, of a text that is no TOML document; else 0.
+    /// For a text that is no TOML document the line, counted from 1; otherwise 0.
     line: usize,
-    /// The column in characters, counted from 1, of such a text; else 0.
+    /// For a text that is no TOML document the column, in characters from 1; otherwise 0.
     column: usize,
-    /// Of any other fault the first place where its condition holds.
+    /// For any other fault the first place at which its condition holds.
     place: LocatedPlace,
-    /// Of two things that may not be together the earlier one; else as `place`.
+    /// For two things that may not be together the earlier one; otherwise as `place`.
     first: LocatedPlace,
 }
 
-/// An index, or that there is none.
+/// Returns an index, or `NOWHERE` for none.
 fn index_or_none(index: Option<usize>) -> usize
     ensures { result ≡ index_or_none index }
 {
@@ -57,7 +57,7 @@ fn index_or_none(index: Option<usize>) -> usize
     }
 }
 
-/// The number of a key.
+/// Returns the number of a key.
 fn key_number(key: Key) -> u8
     ensures { result ≡ key_number key }
 {
@@ -83,7 +83,7 @@ fn key_number(key: Key) -> u8
     }
 }
 
-/// The item that a key means.
+/// Returns the item that a key means, or `NOWHERE`.
 fn key_item(key: Key) -> usize
     ensures { result ≡ key_item key }
 {
@@ -93,7 +93,7 @@ fn key_item(key: Key) -> usize
     }
 }
 
-/// What C gets for a place.
+/// Returns the C form of a place.
 fn located_out(place: Place) -> LocatedPlace
     ensures { result ≡ located_out place }
 {
@@ -109,7 +109,7 @@ fn located_out(place: Place) -> LocatedPlace
     }
 }
 
-/// What C gets for the places of a fault.
+/// Returns the C form of the places of a fault.
 fn location_out(located_place: ProjectLocation) -> Location
     ensures { result ≡ location_out located_place }
 {
@@ -126,7 +126,7 @@ fn location_out(located_place: ProjectLocation) -> Location
     }
 }
 
-/// What C gets for a line and a column.
+/// Returns the C form of a line and a column.
 fn position_out(line: usize, column: usize) -> Location
     ensures { result ≡ position_out line column }
 {
@@ -148,9 +148,12 @@ fn position_out(line: usize, column: usize) -> Location
     }
 }
 
-/// Why a text is no project, and where: `DONE` where it is one; 201 to 210, the fault that `zangjulf_open` answers of it, and
-/// `location` gives the first place where that fault's condition holds; or `MEMORY`. With `DONE` and `MEMORY` `location` is
-/// as it was. A text that is a project may still be answered 12 by `zangjulf_open`. It takes memory, and gives it back.
+/// Tells why and where a text is no project, as `zangjulf_open` judges it. It allocates, and frees what it allocated. Returns
+/// one of these; `location` is written only with a fault:
+///
+/// - `DONE`: the text is a project. `zangjulf_open` may still fail with `OVER_LIMIT`.
+/// - 201 to 210: the lowest fault of the text. `location` has the first place at which its condition holds.
+/// - `MEMORY`: an allocation failed.
 #[unsafe(no_mangle)]
 pub extern "C" fn zangjulf_locate(alloc: Global, text: &[u8], location: &mut Location) -> u8
     ensures answer { result ≢ MEMORY → Locates text.now result location.old location.new }

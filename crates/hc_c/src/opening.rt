@@ -1,4 +1,4 @@
-//! A handle is opened and closed.
+//! Opening and closing a handle.
 ghost use Rattle.std.specs.Prelude.{◌≡◌, ◌≢◌, ◌⊎◌, IfErr, IfOk, IfSome, IsSome, None, OnOk, Some, false, true};
 ghost use Rattle.hc_records.specs.Edits.{over_limit_task};
 ghost use Rattle.hc_records.specs.Line.{line, opened};
@@ -9,10 +9,10 @@ ghost use Rattle.hc_c.specs.SeatImages.{EachTold};
 ghost use Rattle.hc_c.specs.declared.numbers.TheConstants.{BUSY};
 ghost use Rattle.hc_mail.specs.declared.image.LineState.TheVariants.{Closed};
 
-use crate::calls::Calls;
 use crate::counting::Counts;
 use crate::embedded::Embedded;
 use crate::handle::Handle;
+use crate::handle::calls::{Calls, Entered};
 use crate::numbers::{DONE, MEMORY, MISUSED, OVER_LIMIT, PROJECT};
 use crate::seat::ends::OwnerEnds;
 use crate::seat::showing::show_ends;
@@ -24,30 +24,30 @@ use hc_records::faults::{EditFault, ProjectFault};
 use hc_records::project::Project;
 use std::alloc::Global;
 
-/// The bytes of the options in this version.
+/// The size of the options in this version, in bytes.
 pub const OPTIONS_BYTES: u32 = 8;
 
-/// The most seats that only look which a line may have.
+/// The most seats of a line that only look.
 pub const MOST_LOOKERS: u32 = 64;
 
-/// What a line is opened with.
+/// The options of an opening.
 #[repr(C)]
 #[derive(Clone, Copy)]
 pub struct Options {
-    /// The bytes of this struct, by which a version tells what its caller knows.
+    /// The size of this struct in bytes. It tells a version of the library which fields its caller knows.
     size: u32,
-    /// How many seats that only look the line may have, at most 64.
+    /// The number of seats that only look which the line may have, at most 64.
     lookers: u32,
 }
 
-/// Whether a handle with a mark may be opened with these options.
+/// Returns whether a handle with a mark may be opened with these options.
 fn may_open(mark: u64, options: &Options) -> bool
     ensures { result ≡ may_open mark options.now }
 {
     mark == 0 && options.size == OPTIONS_BYTES && options.lookers <= MOST_LOOKERS
 }
 
-/// Opens a project in a box. Otherwise returns the number to answer: `OVER_LIMIT` with the lowest task that needs more than 16
+/// Opens a project in a box. Otherwise returns the number to return: `OVER_LIMIT` with the lowest task that needs more than 16
 /// datagrams, or `MEMORY`.
 fn open_project(
     alloc: Global,
@@ -91,14 +91,14 @@ fn open_project(
     }
 }
 
-/// Opens the project of a text: the mandatory group alone is present, and nothing has happened. Returns `DONE`. It allocates the
-/// line's memory. It fails with one of these, and then the handle is as it was:
+/// Opens the project of a text. Only the mandatory group is present, and nothing has happened yet. Returns `DONE`. It allocates
+/// the line's memory. Fails with one of these; then the handle is unchanged:
 ///
-/// - `MISUSED`: the handle is open or was never zeroed, the options have another size than 8, or more than 64 seats that only
-///   look are asked for.
+/// - `MISUSED`: the handle is open or was never zeroed, the options have another size than 8, or ask for more than 64 seats
+///   that only look.
 /// - 201 to 210: the lowest fault of the project whose condition holds.
-/// - `OVER_LIMIT`: a task of the opening line needs more than 16 datagrams, and `task` is the lowest such. With any other answer
-///   `task` is as it was.
+/// - `OVER_LIMIT`: a task of the opening line needs more than 16 datagrams, and `task` is the lowest such. With any other
+///   answer `task` is unchanged.
 /// - `MEMORY`: an allocation failed.
 #[unsafe(no_mangle)]
 pub extern "C" fn zangjulf_open(
@@ -140,17 +140,17 @@ fn show_closed(own: &mut Embedded)
     show_ends(&own.core, &own.sent_from, LineState::Closed, &mut own.ends);
 }
 
-/// Shows each seat of the line that a handle holds a last image. The handle must hold a line.
-fn tell_closed(handle: &mut Handle)
+/// Shows each seat of a handle's line a last image, in the call that closes the line. The handle must hold a line.
+fn tell_closed(handle: &mut Handle, entered: &Entered)
     requires { IsSome handle.old.holding.value }
     ensures last { IfSome handle.new.holding.value (λ line. EachTold Closed line.ends) }
     ensures open { IsSome handle.new.holding.value }
 {
-    show_closed(handle.holding.line_mut());
+    show_closed(handle.holding.line(entered));
 }
 
-/// Closes a line and gives its memory back. Each seat gets a last image, which says that the line is closed. Returns `DONE`, and
-/// the handle may be opened anew. It fails with one of these, and then the handle is as it was:
+/// Closes a line and frees its memory. Each seat is shown a last image, which says that the line is closed. Returns `DONE`, and
+/// the handle may be opened again. Fails with one of these; then the handle is unchanged:
 ///
 /// - `CLOSED`: no line is open.
 /// - `MISUSED`: the handle was never zeroed.
@@ -165,7 +165,7 @@ pub extern "C" fn zangjulf_close(alloc: Global, handle: &mut Handle) -> u8
     let Some(entered) = handle.enter() else {
         return handle.refusal();
     };
-    tell_closed(handle);
+    tell_closed(handle, &entered);
     let own = handle.take(alloc);
     entered.end_with(own);
     DONE

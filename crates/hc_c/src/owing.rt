@@ -5,25 +5,25 @@ ghost use Rattle.hc_events.specs.Owed.{owed_blocks};
 ghost use Rattle.hc_c.specs.Owings.{first_block_out, block_out};
 ghost use Rattle.hc_c.specs.Handles.{GivesFound, HoldsAsBefore, IfAnswered, no_line_number};
 
-use crate::handle::Handle;
+use crate::handle::{Handle, with_line};
 use crate::numbers::{DONE, NOTHING};
 use hc_core::keeping::Core;
 use hc_plan::blocks::LineBlock;
 
-/// A register block that is owed, as C gets it.
+/// An owed register block, in C.
 #[repr(C)]
 #[derive(Clone, Copy)]
 pub struct OwedBlock {
     /// The station address of its slave.
     station: u16,
-    /// The register where it begins.
+    /// Its first register.
     start: u16,
-    /// Its bytes, 8 or 16.
+    /// The number of its bytes, 8 or 16.
     size: u8,
     reserved: [u8; 3],
 }
 
-/// What C gets for a block.
+/// Returns the C form of a block.
 fn block_out(block: &LineBlock) -> OwedBlock
     requires { HasBlockBytes block.now.block }
     ensures { result ≡ block_out block.now }
@@ -36,7 +36,7 @@ fn block_out(block: &LineBlock) -> OwedBlock
     }
 }
 
-/// The first owed block, as C gets it; zeros where none is owed.
+/// Returns the C form of the first owed block; zeros if none is owed.
 pub fn first_block_out(core: &Core) -> OwedBlock
     ensures { result ≡ first_block_out (owed_blocks core.now.history) }
 {
@@ -51,9 +51,11 @@ pub fn first_block_out(core: &Core) -> OwedBlock
     }
 }
 
-/// The owed register block with an index, from 0, in the order in which they are written: line order, and each slave's in its
-/// own order. `DONE`; `NOTHING` where fewer are owed; `BUSY`, `CLOSED` or `MISUSED`; unless it is done `block` is as it was. It takes no
-/// memory.
+/// Reads the owed register block with an index, from 0, in the order in which blocks are written: line order, and each slave's
+/// blocks in its own order. Returns `DONE`. It allocates nothing. Fails with one of these; then `block` is unchanged:
+///
+/// - `BUSY`, `CLOSED` or `MISUSED`.
+/// - `NOTHING`: fewer blocks are owed.
 #[unsafe(no_mangle)]
 pub extern "C" fn zangjulf_owed_block(handle: &mut Handle, index: u32, block: &mut OwedBlock) -> u8
     ensures answer { IfAnswered handle.old result (λ history. GivesFound (slice_get (owed_blocks history) index) block_out result block.new) }
@@ -61,17 +63,11 @@ pub extern "C" fn zangjulf_owed_block(handle: &mut Handle, index: u32, block: &m
     ensures untouched { result ≢ DONE → block.new ≡ block.old }
     ensures closed { handle.old.holding.value ≡ None → (result ≡ no_line_number handle.old.mark) × (block.new ≡ block.old) }
 {
-    let Some(entered) = handle.enter() else {
-        return handle.refusal();
-    };
-    let own = handle.holding.line_mut();
-    let number = match own.core.owed_block(index) {
+    with_line!(handle, |own| match own.core.owed_block(index) {
         Some(found) => {
             *block = block_out(&found);
             DONE
         }
         None => NOTHING,
-    };
-    own.calls.end(entered);
-    number
+    })
 }

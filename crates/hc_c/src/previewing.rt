@@ -1,4 +1,4 @@
-//! Frames of one datagram as they would be sent.
+//! Previews of frames with one datagram.
 ghost use Rattle.std.specs.Prelude.{◌≡◌, ◌≢◌, ◌≤◌, ◌++◌, None, drop, length};
 ghost use Rattle.hc_core.specs.Filled.{CanBeFilled};
 ghost use Rattle.hc_events.specs.Calls.{preview};
@@ -8,12 +8,12 @@ ghost use Rattle.hc_c.specs.declared.numbers.TheConstants.{BUSY};
 ghost use Rattle.hc_c.specs.Sends.{AnswersPreview};
 ghost use Rattle.hc_c.specs.Handles.{HoldsAsBefore, IfAnswered, no_line_number};
 
-use crate::handle::Handle;
+use crate::handle::{Handle, with_line};
 use crate::numbers::{DONE, NOTHING, ROOM};
 use hc_core::keeping::Core;
 use hc_events::sending::Sending;
 
-/// Fills a frame at the front of a slice that has room for it.
+/// Writes a frame to the front of a slice that is long enough.
 fn fill_frame(core: &Core, frame: &Sending, out: &mut [u8])
     requires can { CanBeFilled core.now.history frame.now }
     requires room { sent_frame_size frame.now ≤ length out.old }
@@ -23,7 +23,7 @@ fn fill_frame(core: &Core, frame: &Sending, out: &mut [u8])
     core.fill(frame, front);
 }
 
-/// Gives the frame of a datagram: `DONE`; `NOTHING` where there is none; or `ROOM` where `out` is too short.
+/// Writes the frame of a datagram. Returns `DONE`, `NOTHING` if there is no such datagram, or `ROOM` if `out` is too short.
 fn give_preview(core: &Core, task: u8, datagram: u8, out: &mut [u8], size: &mut usize) -> u8
     ensures answer { AnswersPreview core.now.history task datagram result size.old size.new out.old out.new }
     ensures untouched { result ≢ DONE → out.new ≡ out.old }
@@ -39,10 +39,13 @@ fn give_preview(core: &Core, task: u8, datagram: u8, out: &mut [u8], size: &mut 
     DONE
 }
 
-/// The frame of one datagram of a task alone, as it would be sent next, whether or not blocks are owed; nothing is sent by
-/// it. `DONE`, and it is at the front of `out`, its bytes in `size`; `NOTHING` where the task has no such datagram, there
-/// is no such task, or no serial is left; `ROOM` where `out` has fewer than `size` bytes, and is as it was; `BUSY`, `CLOSED` or
-/// `MISUSED`. With `NOTHING`, `BUSY`, `CLOSED` and `MISUSED` `size` is as it was. It takes no memory.
+/// Writes the frame of one datagram of a task alone, as it would be sent next, whether or not blocks are owed. Nothing is sent.
+/// Returns `DONE`: the frame is at the front of `out`, and `size` is its length. It allocates nothing. Fails with one of these;
+/// then `out` is unchanged, and so is `size` except with `ROOM`:
+///
+/// - `BUSY`, `CLOSED` or `MISUSED`.
+/// - `NOTHING`: the task has no such datagram or is over 7, or no serial is left.
+/// - `ROOM`: `out` is shorter than the frame. `size` is the length needed.
 #[unsafe(no_mangle)]
 pub extern "C" fn zangjulf_preview(
     handle: &mut Handle,
@@ -57,11 +60,8 @@ pub extern "C" fn zangjulf_preview(
     ensures busy { result ≡ BUSY → size.new ≡ size.old }
     ensures closed { handle.old.holding.value ≡ None → (result ≡ no_line_number handle.old.mark) × (size.new ≡ size.old) }
 {
-    let Some(entered) = handle.enter() else {
-        return handle.refusal();
-    };
-    let own = handle.holding.line_mut();
-    let answer = give_preview(&own.core, task, datagram, out, size);
-    own.calls.end(entered);
-    answer
+    with_line!(
+        handle,
+        |own| give_preview(&own.core, task, datagram, out, size)
+    )
 }

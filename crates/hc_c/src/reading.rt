@@ -1,4 +1,4 @@
-//! What tasks read.
+//! Reads of a task's image.
 ghost use Rattle.std.specs.Prelude.{◌≡◌, ◌≢◌, ◌+◌, ◌*◌, ◌^◌, ◌<◌, ◌≤◌, ◌++◌, All, IfSome, None, drop, is_some, length};
 ghost use Rattle.std.specs.Option.{option_copied};
 ghost use Rattle.hc_records.specs.declared.limits.TheConstants.{MOST_DATAGRAMS};
@@ -10,7 +10,7 @@ ghost use Rattle.hc_c.specs.Reads.{HoldsImage, HoldsTask, ReadsTask, bit_mask, d
 ghost use Rattle.hc_c.specs.States.{count_since};
 ghost use Rattle.hc_c.specs.Handles.{HoldsAsBefore, IfAnswered, IfServedWith, no_line_number};
 
-use crate::handle::Handle;
+use crate::handle::{Handle, with_line};
 use crate::numbers::{DONE, ROOM};
 use crate::states::{first_serial, is_since, state_number};
 use crate::widths::{in_16_bits, in_32_bits};
@@ -19,7 +19,7 @@ use hc_events::faults::CoreFault;
 use hc_places::table::Datagram;
 use hc_records::limits::TASKS;
 
-/// A task's image, as C gets it.
+/// The image of a task, in C.
 #[repr(C)]
 #[derive(Clone, Copy)]
 pub struct Image {
@@ -27,20 +27,20 @@ pub struct Image {
     first_serial: u64,
     /// The present epoch.
     epoch: u32,
-    /// The epoch of the last edit that changed the task, 0 if none did: the data have had their places since.
+    /// The epoch of the last edit that changed the task, 0 if none did. The places of the data are those since then.
     task_epoch: u32,
-    /// The bytes of the image, outputs and inputs, at most 23,776.
+    /// The size of the image in bytes, outputs and inputs, at most 23,776.
     size: u32,
-    /// The task's datagrams, at most 16.
+    /// The number of the task's datagrams, at most 16.
     datagrams: u16,
     /// Bit d is 1 if datagram d has data.
     has: u16,
-    /// `COMPLETE`, `INCOMPLETE` or `NO_DATA`: whether the data answer the task's last sending.
+    /// `COMPLETE`, `INCOMPLETE` or `NO_DATA`: how far the data answer the task's last sending.
     state: u8,
     reserved: [u8; 7],
 }
 
-/// The bytes of the datagrams of a task. A task has 16 datagrams at most, so deep is this recursion.
+/// Returns the bytes of a task's datagrams. A task has at most 16, which bounds the recursion.
 fn image_size(datagrams: &[Datagram]) -> usize
     requires few { length datagrams.now ≤ MOST_DATAGRAMS }
     requires ranges { All IsDatagram datagrams.now }
@@ -53,7 +53,7 @@ fn image_size(datagrams: &[Datagram]) -> usize
     usize::from(first.length) + image_size(rest)
 }
 
-/// Puts the data of a datagram, or zeros if it has none.
+/// Writes the data of a datagram, or zeros if it has none.
 fn put_slot(slot: Option<&[u8]>, out: &mut [u8])
     requires { IfSome (option_copied slot) (λ bytes. length bytes ≡ length out.old) }
     ensures { out.new ≡ data_or_zeros (length out.old) (option_copied slot.entry) }
@@ -64,7 +64,7 @@ fn put_slot(slot: Option<&[u8]>, out: &mut [u8])
     }
 }
 
-/// Puts what these datagrams have one after another. So deep is this recursion too.
+/// Writes the data of these datagrams of a task one after another. There are at most 16, which bounds the recursion.
 fn put_data(core: &Core, task: u8, number: u8, datagrams: &[Datagram], out: &mut [u8])
     requires task { task < TASKS }
     requires few { number + length datagrams.now ≤ MOST_DATAGRAMS }
@@ -80,7 +80,8 @@ fn put_data(core: &Core, task: u8, number: u8, datagrams: &[Datagram], out: &mut
     put_data(core, task, number + 1, rest, others);
 }
 
-/// The bits of those that have data, the first one's the least significant. So deep is this recursion too.
+/// Returns a bit for each of these datagrams of a task, 1 if it has data; the first one's bit is the least significant. There
+/// are at most 16, which bounds the recursion.
 fn mask(core: &Core, task: u8, number: u8, datagrams: &[Datagram]) -> u16
     requires task { task < TASKS }
     requires few { number + length datagrams.now ≤ MOST_DATAGRAMS }
@@ -96,7 +97,7 @@ fn mask(core: &Core, task: u8, number: u8, datagrams: &[Datagram]) -> u16
     }
 }
 
-/// Gives the serial of each, as many as there is room for. So deep is this recursion too.
+/// Writes the serial of each of these datagrams of a task, as many as fit. There are at most 16, which bounds the recursion.
 fn put_serials(core: &Core, task: u8, number: u8, datagrams: &[Datagram], serials: &mut [u64])
     requires task { task < TASKS }
     requires few { number + length datagrams.now ≤ MOST_DATAGRAMS }
@@ -112,7 +113,8 @@ fn put_serials(core: &Core, task: u8, number: u8, datagrams: &[Datagram], serial
     put_serials(core, task, number + 1, rest, others);
 }
 
-/// How many of these datagrams have data that answer a serial or a later one. So deep is this recursion too.
+/// Counts these datagrams of a task whose data answer a serial or a later one. There are at most 16, which bounds the
+/// recursion.
 fn count_since(core: &Core, task: u8, number: u8, datagrams: &[Datagram], first: u64) -> u8
     requires task { task < TASKS }
     requires few { number + length datagrams.now ≤ MOST_DATAGRAMS }
@@ -128,7 +130,7 @@ fn count_since(core: &Core, task: u8, number: u8, datagrams: &[Datagram], first:
     }
 }
 
-/// What is reported of a task's datagrams beside their data; its last sending begins with a serial.
+/// Returns the C form of a task's image beside its data. The task's last sending begins with a serial.
 fn image_out(core: &Core, task: u8, datagrams: &[Datagram], first: u64) -> Image
     requires task { task < TASKS }
     requires few { length datagrams.now ≤ MOST_DATAGRAMS }
@@ -148,7 +150,7 @@ fn image_out(core: &Core, task: u8, datagrams: &[Datagram], first: u64) -> Image
     }
 }
 
-/// Gives what a task reads of its datagrams: `DONE`, or `ROOM` if `out` is too short.
+/// Writes the image of a task from its datagrams. Returns `DONE`, or `ROOM` if `out` is too short.
 fn give_slots(
     core: &Core,
     task: u8,
@@ -177,7 +179,7 @@ fn give_slots(
     DONE
 }
 
-/// Gives an image: `DONE`, or `ROOM` if `out` is too short, or why it was refused.
+/// Writes an image. Returns `DONE`, `ROOM` if `out` is too short, or the number of its refusal.
 fn give_image(
     core: &Core,
     task: u8,
@@ -198,16 +200,19 @@ fn give_image(
     give_slots(core, task, datagrams, first, out, serials, image)
 }
 
-/// What a task reads: of each of its datagrams the data of the last good answer since the last edit that changed the task, or
-/// none (this project's profile). The data of each are in `out` at the datagram's offset in the task's image, outputs and inputs,
-/// and those of one without data are zeros; `serials` has of each, in the datagrams' order, the serial of the sending that its data
-/// answer, 0 if it has none, as many as there is room for. `image.has` says which have data, and `image.state` whether they answer
-/// the task's last sending. Returns `DONE`. Nothing changes. It allocates nothing. It fails with the first of these, and `out`,
-/// `serials` and `image` are as they were:
+/// Reads the image of a task: for each datagram the data of its last good answer since the last edit that changed the task, or
+/// none (this project's profile). Returns `DONE`. It allocates nothing and changes nothing.
+///
+/// `out` begins with the image, outputs and inputs: the data of each datagram at its offset, and zeros for one without data.
+/// `serials` begins with a serial for each datagram, in their order and as many as fit: that of the frame which its data
+/// answer, 0 if it has none. `image.has` has a bit for each datagram with data, and `image.state` says how far the data answer
+/// the task's last sending.
+///
+/// Fails with the first of these; then `out`, `serials` and `image` are unchanged:
 ///
 /// - `BUSY`, `CLOSED` or `MISUSED`.
-/// - 8: the task is over 7.
-/// - `ROOM`: `out` is shorter than the image, which 23,776 bytes never are.
+/// - `NoSuchTask`, 8: the task is over 7.
+/// - `ROOM`: `out` is shorter than the image. 23,776 bytes are always enough.
 #[unsafe(no_mangle)]
 pub extern "C" fn zangjulf_read(
     handle: &mut Handle,
@@ -223,12 +228,8 @@ pub extern "C" fn zangjulf_read(
     ensures unwritten { result ≢ DONE → (serials.new ≡ serials.old) × (image.new ≡ image.old) }
     ensures closed { handle.old.holding.value ≡ None → result ≡ no_line_number handle.old.mark }
 {
-    let Some(entered) = handle.enter() else {
-        return handle.refusal();
-    };
-    let own = handle.holding.line_mut();
-    let first = first_serial(&own.sent_from, task);
-    let number = give_image(&own.core, task, first, out, serials, image);
-    own.calls.end(entered);
-    number
+    with_line!(handle, |own| {
+        let first = first_serial(&own.sent_from, task);
+        give_image(&own.core, task, first, out, serials, image)
+    })
 }

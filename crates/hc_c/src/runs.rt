@@ -1,4 +1,4 @@
-//! Runs of bits in bytes that C keeps: those that it posts, and those that it reads.
+//! Runs of bits in bytes that C stores: posts and images.
 ghost use Rattle.std.specs.Prelude.{◌≡◌, ◌≢◌, ℕ, ◌+◌, ◌<◌, ◌≤◌, ◌^◌, if◌then◌else◌, length};
 ghost use Rattle.std.specs.Int.{bit_at};
 ghost use Rattle.hc_bits.specs.Bits.{ReplacesRun, bit_of};
@@ -7,7 +7,7 @@ ghost use Rattle.hc_c.specs.Runs.{is_run, is_too_wide, put_number};
 use crate::numbers::{DONE, MISUSED, TOO_WIDE};
 use hc_bits::{get_bits, put_bits};
 
-/// Whether 1 to 64 bits from a bit on lie within so many bytes.
+/// Returns whether 1 to 64 bits from a bit on lie within a number of bytes.
 pub fn is_run(bytes: usize, bit: usize, bits: u8) -> bool
     ensures { result ≡ is_run bytes bit bits }
 {
@@ -19,7 +19,7 @@ pub fn is_run(bytes: usize, bit: usize, bits: u8) -> bool
     left > 8 || bit % 8 + usize::from(bits) <= 8 * left
 }
 
-/// Whether a value needs more bits than so many, 64 at most.
+/// Returns whether a value needs more bits than `bits`, at most 64.
 pub fn is_too_wide(value: u64, bits: u8) -> bool
     requires { bits ≤ 64 }
     ensures { result ≡ is_too_wide value bits }
@@ -27,9 +27,9 @@ pub fn is_too_wide(value: u64, bits: u8) -> bool
     bits < 64 && value >= 1 << bits
 }
 
-/// The bits of a slice from bit `bit` on, 1 to 64 of them, as a number whose least significant bit is the first one. Bits are
-/// counted from the least significant bit of the first byte. `DONE`; `MISUSED` where there are none or more than 64, or they
-/// don't lie within the slice, and `value` is as it was.
+/// Reads 1 to 64 bits of a slice from bit `bit` on as a number whose least significant bit is the first one. Bits are counted
+/// from the least significant bit of the first byte. Returns `DONE`. Fails with `MISUSED` if `bits` is not 1 to 64 or the bits
+/// do not lie within the slice; then `value` is unchanged.
 #[unsafe(no_mangle)]
 pub extern "C" fn zangjulf_get_bits(bytes: &[u8], bit: usize, bits: u8, value: &mut u64) -> u8
     ensures number { result ≡ (if is_run (length bytes.now) bit bits then DONE else MISUSED) }
@@ -44,9 +44,11 @@ pub extern "C" fn zangjulf_get_bits(bytes: &[u8], bit: usize, bits: u8, value: &
     DONE
 }
 
-/// Replaces the bits of a slice from bit `bit` on, 1 to 64 of them, by those of a value, the least significant first; every
-/// other bit stays. `DONE`; `MISUSED` where there are none or more than 64, or they don't lie within the slice; `TOO_WIDE`
-/// where the value needs more bits. Unless it is done the slice is as it was.
+/// Writes a value into 1 to 64 bits of a slice from bit `bit` on, its least significant bit first. All other bits stay. Returns
+/// `DONE`. Fails with the first of these; then the slice is unchanged:
+///
+/// - `MISUSED`: `bits` is not 1 to 64, or the bits do not lie within the slice.
+/// - `TOO_WIDE`: the value needs more bits.
 #[unsafe(no_mangle)]
 pub extern "C" fn zangjulf_put_bits(bytes: &mut [u8], bit: usize, bits: u8, value: u64) -> u8
     ensures number { result ≡ put_number (length bytes.old) bit bits value }

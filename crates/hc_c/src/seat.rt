@@ -1,5 +1,5 @@
-//! Seats: a task's thread reads and posts while another thread, the owner, has the line. The owner shows images and takes posts;
-//! nobody waits.
+//! Seats. A task's thread reads and posts at its seat while another thread, the owner, has the line. The owner shows images and
+//! takes posts. Nobody waits.
 
 pub mod ends;
 mod handle;

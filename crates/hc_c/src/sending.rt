@@ -1,4 +1,4 @@
-//! Ready tasks are sent, while register blocks of other tasks may be owed.
+//! Sending of ready tasks, while register blocks of other tasks may be owed.
 ghost use Rattle.std.specs.Prelude.{◌≡◌, ◌≢◌, ◌+◌, ◌<◌, ℕ, IfSome, None, length, sum_by};
 ghost use Rattle.hc_events.specs.Calls.{AreSentTogether, frames_size};
 ghost use Rattle.hc_events.specs.declared.faults.CoreFault.TheVariants.{Room};
@@ -12,7 +12,7 @@ ghost use Rattle.hc_c.specs.Sends.{SendsFrames, TellsWait, send_refusal, sent_ou
 ghost use Rattle.hc_c.specs.declared.numbers.TheConstants.{ROOM};
 
 use crate::embedded::Embedded;
-use crate::handle::Handle;
+use crate::handle::{Handle, with_line};
 use crate::numbers::{DONE, MEMORY, MISUSED, WAITS};
 use crate::too_short::refuse;
 use crate::widths::in_32_bits;
@@ -20,46 +20,46 @@ use hc_events::faults::CoreFault;
 use hc_events::sending::Sending;
 use hc_events::together::Together;
 
-/// Where a frame lies among those that were sent, as C gets it.
+/// The place of a frame among those that were sent, in C.
 #[repr(C)]
 #[derive(Clone, Copy)]
 pub struct SentFrame {
-    /// The byte of the slice where it begins.
+    /// The offset of the frame in the slice, in bytes.
     offset: u32,
-    /// Its bytes, 60 to 1,514.
+    /// The length of the frame, 60 to 1,514 bytes.
     size: u32,
 }
 
-/// Why a task waits, as C gets it.
+/// The reasons for which a task waits, in C.
 #[repr(C)]
 #[derive(Clone, Copy)]
 pub struct WaitingTask {
-    /// How many owed register blocks concern it.
+    /// The number of owed register blocks that concern it.
     blocks: u32,
-    /// How many registers of slaves outside the line concern it.
+    /// The number of registers of slaves outside the line that concern it.
     outside: u32,
     /// The task, 0 to 7.
     task: u8,
     reserved: [u8; 3],
 }
 
-/// What was sent, as C gets it.
+/// The result of a sending, in C.
 #[repr(C)]
 #[derive(Clone, Copy)]
 pub struct Sent {
-    /// The serial of the first frame; those after it have consecutive ones.
+    /// The serial of the first frame; later frames have consecutive serials.
     first_serial: u64,
-    /// The bytes of all frames.
+    /// The length of all frames together, in bytes.
     size: u32,
-    /// How many frames there are, at most 128.
+    /// The number of frames, at most 128.
     frames: u32,
-    /// Of a sending that is refused because a task waits, the first that does; zeros of one that is done.
+    /// The first task that waits, if the sending fails with `WAITS`; zeros after `DONE`.
     waits: WaitingTask,
     reserved: u32,
 }
 
-/// Puts where frames lie, of as many as there is room for; the first one begins at a byte. A sending has 128 frames at most, so
-/// deep is this recursion.
+/// Writes the places of frames to the front of `table`, as many as fit; the first frame begins at the byte `at`. A sending has
+/// at most 128 frames, which bounds the recursion.
 fn put_table(at: u32, frames: &[Sending], table: &mut [SentFrame])
     requires { at + sum_by sent_frame_size frames.now < 4294967296 }
     ensures { table.new ≡ put_first (table_from at frames.now) table.old }
@@ -75,7 +75,8 @@ fn put_table(at: u32, frames: &[Sending], table: &mut [SentFrame])
     put_table(at + size, rest, others);
 }
 
-/// Notes that the last sending of each of these tasks begins with a serial. There are eight tasks, so deep is this recursion.
+/// Stores the serial at which the last sending of each of these tasks begins. There are at most eight, which bounds the
+/// recursion.
 fn note_sent(firsts: &mut [u64], tasks: &[u8], serial: u64)
     ensures { firsts.new ≡ all_sent_from serial firsts.old tasks.now }
 {
@@ -89,7 +90,7 @@ fn note_sent(firsts: &mut [u64], tasks: &[u8], serial: u64)
     note_sent(firsts, rest, serial);
 }
 
-/// The number of a refusal: with `ROOM` the bytes that are needed are reported, and with `WAITS` the task that waits.
+/// Returns the number of a refusal. With `ROOM` it also writes the length needed, with `WAITS` the task that waits.
 #[tactic(auto, using(crate::proofs::Rooms::room_alone, crate::proofs::Rooms::waits_alone))]
 fn refuse_frames(fault: CoreFault, sent: &mut Sent) -> u8
     requires { (bytes : ℕ) → fault ≡ Room bytes → bytes < 4294967296 }
@@ -114,7 +115,7 @@ fn refuse_frames(fault: CoreFault, sent: &mut Sent) -> u8
     refuse(fault, &mut sent.size)
 }
 
-/// What is reported of a sending that is done.
+/// Returns the C form of a sending that is done.
 fn sent_out(first_serial: u64, size: usize, frames: usize) -> Sent
     requires size { size < 4294967296 }
     requires frames { frames < 4294967296 }
@@ -134,7 +135,7 @@ fn sent_out(first_serial: u64, size: usize, frames: usize) -> Sent
     }
 }
 
-/// Sends ready tasks that can be sent together: `DONE`, or why they are refused.
+/// Sends ready tasks that can be sent together. Returns `DONE` or the number of the refusal.
 #[tactic(auto, using(crate::proofs::Rooms::ready_frames_need))]
 fn send_tasks(
     own: &mut Embedded,
@@ -171,18 +172,20 @@ fn send_tasks(
     }
 }
 
-/// Ready tasks are sent, in their order: no owed register block concerns one of them, and no slave outside the line may take
-/// part in one. The frames are at the front of `out` one after another, each of its own size; `table` has of each, as many as there
-/// is room for, where it begins and its bytes; and `sent` has the serial of the first frame, the bytes of all and their number,
-/// which is 0 if the tasks have no datagram. Returns `DONE`. It allocates nothing, as the list of the frames has had its room since
-/// the opening. It fails with the first of these, nothing is sent and nothing has changed:
+/// Sends ready tasks, in the order of `tasks`. A task is ready if no owed register block concerns it and no slave outside the
+/// line may take part in it. Returns `DONE`. It allocates nothing, since the list of frames has its capacity from the opening.
+///
+/// `out` begins with the frames, one after another and each of its own length. `table` begins with their places, as many as
+/// fit. `sent` has the first serial, the length and the number of frames; there is none if the tasks have no datagram.
+///
+/// Fails with the first of these; then nothing is sent and nothing has changed:
 ///
 /// - `BUSY`, `CLOSED` or `MISUSED`.
 /// - `MISUSED`: there is no task, there are more than 8, or one is named twice.
-/// - 8: a task is over 7.
-/// - `WAITS`: a task waits. `sent.waits` is the first that does, and all else of `sent` is as it was.
-/// - 19: too few serials are left.
-/// - `ROOM`: `out` is too short. `sent.size` is the bytes that are needed, and all else of `sent` is as it was.
+/// - `NoSuchTask`, 8: a task is over 7.
+/// - `WAITS`: a task waits. `sent.waits` is the first that does; the rest of `sent` is unchanged.
+/// - `SerialsSpent`, 19: too few serials are left.
+/// - `ROOM`: `out` is too short. `sent.size` is the length needed; the rest of `sent` is unchanged.
 #[unsafe(no_mangle)]
 pub extern "C" fn zangjulf_send(
     handle: &mut Handle,
@@ -203,14 +206,8 @@ pub extern "C" fn zangjulf_send(
     ensures untouched { result ≢ DONE → (out.new ≡ out.old) × (table.new ≡ table.old) }
     ensures closed { handle.old.holding.value ≡ None → (result ≡ no_line_number handle.old.mark) × (sent.new ≡ sent.old) }
 {
-    let Some(entered) = handle.enter() else {
-        return handle.refusal();
-    };
-    let own = handle.holding.line_mut();
-    let number = match Together::of(tasks) {
+    with_line!(handle, |own| match Together::of(tasks) {
         Some(_) => send_tasks(own, tasks, out, table, sent),
         None => MISUSED,
-    };
-    own.calls.end(entered);
-    number
+    })
 }

@@ -1,4 +1,4 @@
-//! A simulated slave, whose memory C keeps: it holds nothing between two calls.
+//! Simulated slaves. C stores the memory of each; the library stores nothing between two calls.
 ghost use Rattle.std.specs.Prelude.{◌≡◌, ◌≢◌, ◌+◌, ◌≤◌, length};
 ghost use Rattle.hc_machine.specs.declared.limits.TheConstants.{MEMORY_BYTES};
 ghost use Rattle.hc_machine.specs.Frames.{frame_after, memory_after};
@@ -9,7 +9,7 @@ use hc_frames::limits::{ALIAS_REGISTER, MAX_DATA};
 use hc_machine::limits::MEMORY_BYTES;
 use hc_machine::{is_readable, serve_frame};
 
-/// Zeros in the place of all bytes.
+/// Replaces all bytes by zeros.
 #[tactic(auto, unfolding(hc_machine::specs::Memory::zeros))]
 fn clear(memory: &mut [u8])
     ensures { memory.new ≡ zeros (length memory.old) }
@@ -17,7 +17,7 @@ fn clear(memory: &mut [u8])
     memory.fill(0);
 }
 
-/// Puts bytes in the place of those from `at` on.
+/// Replaces the bytes from `at` on.
 fn put_part(bytes: &mut [u8], at: usize, part: &[u8])
     requires { at + length part.now ≤ length bytes.old }
     ensures { bytes.new ≡ with_part at part.now bytes.old }
@@ -25,7 +25,7 @@ fn put_part(bytes: &mut [u8], at: usize, part: &[u8])
     bytes[at..at + part.len()].copy_from_slice(part);
 }
 
-/// Makes the memory of a slave that no frame has met.
+/// Writes the memory of a slave that no frame has passed.
 fn start(memory: &mut [u8], alias: u16)
     requires { length memory.old ≡ MEMORY_BYTES }
     ensures { memory.new ≡ fresh_memory alias }
@@ -34,7 +34,7 @@ fn start(memory: &mut [u8], alias: u16)
     put_part(memory, usize::from(ALIAS_REGISTER), &alias.to_le_bytes());
 }
 
-/// Does what the slave with a memory does with a frame.
+/// Passes a frame through the slave with this memory.
 fn process(memory: &mut [u8], frame: &mut [u8])
     requires { length memory.old ≡ MEMORY_BYTES }
     ensures frame { frame.new ≡ frame_after memory.old frame.old }
@@ -46,8 +46,8 @@ fn process(memory: &mut [u8], frame: &mut [u8])
     }
 }
 
-/// The memory of a slave that no frame has met, 12,288 bytes: zeros but for its configured station alias. `DONE`; `MISUSED`
-/// where it has more or fewer bytes, and then it is as it was. It takes no memory.
+/// Writes the memory of a slave that no frame has passed, 12,288 bytes: zeros, except its configured station alias. Returns
+/// `DONE`. It allocates nothing. Fails with `MISUSED` if the memory has another length; then it is unchanged.
 #[unsafe(no_mangle)]
 pub extern "C" fn zangjulf_slave_start(memory: &mut [u8], alias: u16) -> u8
     ensures done { length memory.old ≡ MEMORY_BYTES → (result ≡ DONE) × (memory.new ≡ fresh_memory alias) }
@@ -60,9 +60,9 @@ pub extern "C" fn zangjulf_slave_start(memory: &mut [u8], alias: u16) -> u8
     DONE
 }
 
-/// Does what the slave with a memory of 12,288 bytes does with a frame, in the frame's place: a frame that can't be read
-/// stays as it is. `DONE`; `MISUSED` where the memory has more or fewer bytes, and then both are as they were. It takes no
-/// memory.
+/// Passes a frame through the slave with a memory of 12,288 bytes, in place. A frame that cannot be read is left as it is.
+/// Returns `DONE`. It allocates nothing. Fails with `MISUSED` if the memory has another length; then memory and frame are
+/// unchanged.
 #[unsafe(no_mangle)]
 pub extern "C" fn zangjulf_slave_process(memory: &mut [u8], frame: &mut [u8]) -> u8
     ensures frame { length memory.old ≡ MEMORY_BYTES → (result ≡ DONE) × (frame.new ≡ frame_after memory.old frame.old) }

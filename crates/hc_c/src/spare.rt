@@ -1,4 +1,4 @@
-//! Memory that an opened line takes at its opening and its calls use again, so that none is taken in a cycle.
+//! Memory that a line allocates at its opening and that calls use again, so that no cycle allocates.
 use hc_events::answer::Outcome;
 use hc_events::sending::Sending;
 use hc_records::slots::SLOTS;
@@ -6,12 +6,12 @@ use hc_sendings::awaited::FRAME_DATAGRAMS;
 use std::alloc::{AllocError, Global};
 use std::marker::Model;
 
-/// A list for the frames of a sending, with room for one of each datagram that a line can have, and one for what an arrival is
-/// for each datagram, with room for the most datagrams of a frame. Contracts see nothing of what they hold.
+/// Two lists: one for the frames of a sending, with a capacity of one for each datagram of a line, and one for the outcomes of
+/// an arriving frame, with a capacity of the most datagrams of a frame. Contracts see nothing of their contents.
 pub struct Spare {
-    /// Room for the frames of any sending.
+    /// Frames of a sending.
     pub frames: Vec<Sending>,
-    /// Room for what any arrival is.
+    /// Outcomes of an arriving frame.
     pub outcomes: Vec<Outcome>,
 }
 
@@ -37,7 +37,7 @@ impl Model for Spare {
 }
 
 impl Spare {
-    /// Empty lists. `AllocError` where memory was refused.
+    /// Returns empty lists. `AllocError` if an allocation fails.
     pub fn new(alloc: Global) -> Result<Spare, AllocError> {
         Ok(Spare {
             frames: Vec::with_capacity(alloc, SLOTS)?,

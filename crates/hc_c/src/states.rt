@@ -1,4 +1,4 @@
-//! How far what a task reads answers the last sending of the task.
+//! The state of a task's image: how far its data answer the last sending of the task.
 ghost use Rattle.std.specs.Prelude.{◌≡◌, ◌≤◌, length, slice_index_or};
 ghost use Rattle.hc_records.specs.declared.limits.TheConstants.{MOST_DATAGRAMS};
 ghost use Rattle.hc_c.specs.States.{count_since, is_since, state_number, task_state};
@@ -12,7 +12,7 @@ pub const INCOMPLETE: u8 = 1;
 /// Each datagram of the task has data that answer its last sending.
 pub const COMPLETE: u8 = 2;
 
-/// Whether a datagram has data, and they answer a serial or a later one.
+/// Returns whether a datagram has data that answer a serial or a later one.
 pub fn is_since(first: u64, serial: Option<u64>) -> bool
     ensures { result ≡ is_since first serial }
 {
@@ -22,7 +22,7 @@ pub fn is_since(first: u64, serial: Option<u64>) -> bool
     }
 }
 
-/// The state of a task so many of whose datagrams have data that answer its last sending.
+/// Returns the state of a task with `all` datagrams, of which `since` have data that answer its last sending.
 pub fn state_number(since: usize, all: usize) -> u8
     ensures { result ≡ state_number since all }
 {
@@ -35,7 +35,7 @@ pub fn state_number(since: usize, all: usize) -> u8
     }
 }
 
-/// How many datagrams have data that answer a serial or a later one. A task has 16 datagrams at most, so deep is this recursion.
+/// Counts the datagrams whose data answer a serial or a later one. A task has at most 16, which bounds the recursion.
 fn count_since(first: u64, serials: &[Option<u64>]) -> u8
     requires { length serials.now ≤ MOST_DATAGRAMS }
     ensures count { result ≡ count_since first serials.now }
@@ -47,7 +47,7 @@ fn count_since(first: u64, serials: &[Option<u64>]) -> u8
     }
 }
 
-/// The state of a task whose last sending begins with a serial, by the serials that its datagrams' data answer.
+/// Returns the state of a task whose last sending begins with a serial, from the serials that its datagrams' data answer.
 pub fn task_state(first: u64, serials: &[Option<u64>]) -> u8
     requires { length serials.now ≤ MOST_DATAGRAMS }
     ensures { result ≡ task_state first serials.now }
@@ -55,7 +55,7 @@ pub fn task_state(first: u64, serials: &[Option<u64>]) -> u8
     state_number(usize::from(count_since(first, serials)), serials.len())
 }
 
-/// The first serial of a task's last sending, 0 before one and of no task.
+/// Returns the first serial of a task's last sending; 0 before the first one, and for a task over 7.
 pub fn first_serial(sent_from: &[u64], task: u8) -> u64
     ensures { result ≡ slice_index_or sent_from.now task 0 }
 {

@@ -1,10 +1,10 @@
-//! Values of variables, by their numbers, in bytes that C keeps.
+//! Values of variables, by their numbers, in bytes that C stores.
 ghost use Rattle.std.specs.Prelude.{◌≡◌, ◌≢◌, ◌≤◌, None};
 ghost use Rattle.hc_events.specs.Steps.{is_stale_epoch};
 ghost use Rattle.hc_c.specs.Values.{GetsValue, PutsValue, GetsAt, PutsAt};
 ghost use Rattle.hc_c.specs.Handles.{HoldsAsBefore, IfAnswered, no_line_number};
 
-use crate::handle::Handle;
+use crate::handle::{Handle, with_line};
 use crate::looking::{image_bit_of, place_at};
 use crate::numbers::{DONE, IS_INPUT, NOTHING, ROOM, STALE_POST, TOO_WIDE};
 use crate::runs::{is_run, is_too_wide};
@@ -13,14 +13,14 @@ use hc_core::keeping::Core;
 use hc_places::table::Place as LinePlace;
 use hc_records::records::Dir;
 
-/// Whether an epoch is below the epoch of the last edit that changed a variable's task, or above the present one.
+/// Returns whether an epoch is below the epoch of the last edit that changed a variable's task, or above the present one.
 fn is_stale(core: &Core, place: LinePlace, epoch: u32) -> bool
     ensures { result ≡ is_stale_epoch core.now.history place.task epoch }
 {
     epoch < core.task_epoch(place.task) || core.plan().epoch() < epoch
 }
 
-/// Puts a value where a variable is placed in its task's outputs.
+/// Writes a value to a variable's place in its task's outputs.
 fn put_at(place: LinePlace, stale: bool, bit: usize, value: u64, outputs: &mut [u8]) -> u8
     requires { place.bits ≤ 64 }
     ensures { PutsValue place stale bit value result outputs.old outputs.new }
@@ -41,7 +41,7 @@ fn put_at(place: LinePlace, stale: bool, bit: usize, value: u64, outputs: &mut [
     DONE
 }
 
-/// Gives the value of a variable from its task's image.
+/// Reads the value of a variable from its task's image.
 fn get_at(place: LinePlace, stale: bool, bit: usize, image: &[u8], value: &mut u64) -> u8
     ensures { GetsValue place stale bit image.now result value.old value.new }
 {
@@ -55,7 +55,7 @@ fn get_at(place: LinePlace, stale: bool, bit: usize, image: &[u8], value: &mut u
     DONE
 }
 
-/// Puts a value where a variable is placed in the present line.
+/// Writes a value to a variable's place in the present line.
 fn put_value(core: &Core, variable: u32, epoch: u32, value: u64, outputs: &mut [u8]) -> u8
     ensures { PutsAt core.now.history variable epoch value result outputs.old outputs.new }
 {
@@ -66,7 +66,7 @@ fn put_value(core: &Core, variable: u32, epoch: u32, value: u64, outputs: &mut [
     put_at(place, is_stale(core, place, epoch), bit, value, outputs)
 }
 
-/// Gives the value of a variable that is placed in the present line.
+/// Reads the value of a variable with a place in the present line.
 fn get_value(core: &Core, variable: u32, epoch: u32, image: &[u8], value: &mut u64) -> u8
     ensures { GetsAt core.now.history variable epoch image.now result value.old value.new }
 {
@@ -77,9 +77,9 @@ fn get_value(core: &Core, variable: u32, epoch: u32, image: &[u8], value: &mut u
     get_at(place, is_stale(core, place, epoch), bit, image, value)
 }
 
-/// Puts a value into the outputs of its task that are to be posted for an epoch, at the place that an output variable has in the
-/// present line. Every other bit stays. Returns `DONE`. It allocates nothing. It fails with the first of these, and the slice is as
-/// it was:
+/// Writes the value of an output variable into outputs that its task is to post for an epoch, at the place that the variable
+/// has in the present line. All other bits stay. Returns `DONE`. It allocates nothing. Fails with the first of these; then the
+/// slice is unchanged:
 ///
 /// - `BUSY`, `CLOSED` or `MISUSED`.
 /// - `NOTHING`: the present line has no place for the variable.
@@ -100,18 +100,15 @@ pub extern "C" fn zangjulf_put_value(
     ensures untouched { result ≢ DONE → outputs.new ≡ outputs.old }
     ensures closed { handle.old.holding.value ≡ None → result ≡ no_line_number handle.old.mark }
 {
-    let Some(entered) = handle.enter() else {
-        return handle.refusal();
-    };
-    let own = handle.holding.line_mut();
-    let number = put_value(&own.core, variable, epoch, value, outputs);
-    own.calls.end(entered);
-    number
+    with_line!(
+        handle,
+        |own| put_value(&own.core, variable, epoch, value, outputs)
+    )
 }
 
-/// Gives the value of a variable from the image of its task that was read in an epoch, as `zangjulf_read` gives it, at the place
-/// that the variable has in the present line. Whether the datagram has data is given by the read's mask. Returns `DONE`. It
-/// allocates nothing. It fails with the first of these, and `value` is as it was:
+/// Reads the value of a variable from an image of its task that was read in an epoch (`zangjulf_read`), at the place that the
+/// variable has in the present line. The image's `has` tells whether the variable's datagram has data. Returns `DONE`. It
+/// allocates nothing. Fails with the first of these; then `value` is unchanged:
 ///
 /// - `BUSY`, `CLOSED` or `MISUSED`.
 /// - `NOTHING`: the present line has no place for the variable.
@@ -130,11 +127,8 @@ pub extern "C" fn zangjulf_get_value(
     ensures unwritten { result ≢ DONE → value.new ≡ value.old }
     ensures closed { handle.old.holding.value ≡ None → result ≡ no_line_number handle.old.mark }
 {
-    let Some(entered) = handle.enter() else {
-        return handle.refusal();
-    };
-    let own = handle.holding.line_mut();
-    let number = get_value(&own.core, variable, epoch, image, value);
-    own.calls.end(entered);
-    number
+    with_line!(
+        handle,
+        |own| get_value(&own.core, variable, epoch, image, value)
+    )
 }

@@ -1,8 +1,8 @@
-//! The version of the library, and the number of its binary interface. A program that loads the library asks for them first.
+//! The version of the library, and the number of its binary interface (ABI). A program reads both before any other call.
 ghost use Rattle.std.specs.Prelude.{◌≡◌};
 ghost use Rattle.hc_c.specs.declared.version.TheConstants.{ABI, MAJOR, MINOR, PATCH};
 
-/// The number of the binary interface: it grows with each release where a call or a struct is another one, or gone.
+/// The number of the binary interface. It grows with each release in which a call or a struct differs or is gone.
 pub const ABI: u32 = 1;
 
 /// The first number of the version.
@@ -14,7 +14,7 @@ pub const MINOR: u32 = 2;
 /// The third number of the version.
 pub const PATCH: u32 = 0;
 
-/// The number of the binary interface, `ABI`.
+/// Returns the number of the binary interface, `ABI`.
 #[unsafe(no_mangle)]
 pub extern "C" fn zangjulf_abi() -> u32
     ensures { result ≡ ABI }
@@ -22,7 +22,7 @@ pub extern "C" fn zangjulf_abi() -> u32
     ABI
 }
 
-/// The version, `MAJOR`, `MINOR` and `PATCH`.
+/// Writes the version: `MAJOR`, `MINOR` and `PATCH`.
 #[unsafe(no_mangle)]
 pub extern "C" fn zangjulf_version(major: &mut u32, minor: &mut u32, patch: &mut u32)
     ensures major { major.new ≡ MAJOR }

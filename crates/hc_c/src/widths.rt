@@ -1,7 +1,7 @@
-//! Sizes and counts as C gets them, in 32 and in 16 bits.
+//! Sizes and counts for C, in 32 and in 16 bits.
 ghost use Rattle.std.specs.Prelude.{◌≡◌, ◌<◌};
 
-/// A size or a count in 32 bits.
+/// Returns a size or a count in 32 bits.
 pub fn in_32_bits(count: usize) -> u32
     requires { count < 4294967296 }
     ensures { result ≡ count }
@@ -9,7 +9,7 @@ pub fn in_32_bits(count: usize) -> u32
     count as u32
 }
 
-/// A count in 16 bits.
+/// Returns a count in 16 bits.
 pub fn in_16_bits(count: usize) -> u16
     requires { count < 65536 }
     ensures { result ≡ count }

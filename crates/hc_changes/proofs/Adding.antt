@@ -1,17 +1,15 @@
 -- What is met, and added, while a list is gone along.
-use Rattle.std.proofs.Common.{◌≡◌, ℕ, ◌+◌, ◌<◌, ◌≤◌, Bool, true, false, cond, List, [], ◌∷◌, ◌++◌, None, append-nil, arith, drop, length, get_or, sym, ap, ◌∙◌, append_assoc, if◌then◌else◌, rules}
-use Rattle.std.specs.Prelude.{All, Some, filter, map}
+use Rattle.std.proofs.Common.{◌≡◌, ℕ, ◌+◌, ◌<◌, ◌≤◌, Bool, cond, List, [], ◌∷◌, ◌++◌, None, append-nil, arith, drop, length, get_or, sym, ap, ◌∙◌, append_assoc, if◌then◌else◌, rules}
+use Rattle.std.specs.Prelude.{filter, map}
 use Rattle.std.specs.List.{flat_map, zip}
 use Rattle.std.proofs.lemmas.List.{drop_all, drop_more, map-append}
 use Rattle.std.proofs.lemmas.List.Elements.{filter_map-append}
 use Rattle.hc_records.specs.declared.records.Area.{Area}
 use Rattle.hc_records.specs.Area.{Entry}
-use Rattle.hc_records.specs.Packing.{Placed}
 use Rattle.hc_records.specs.Project.{entry_names}
 use Rattle.hc_cuts.specs.LineChange.{LineChange}
 use Rattle.hc_places.specs.Swap.{ChangedRow}
-use Rattle.hc_changes.specs.MovedAreas.{MovedArea}
-use Rattle.hc_changes.specs.Rows.{HoldsArea, IsInside, gone_rows, gone_variables}
+use Rattle.hc_changes.specs.Rows.{gone_rows, gone_variables}
 
 -- where each that passes a test adds one element
 
@@ -24,40 +22,11 @@ pub unchanged-added : {X Y : Type 0} (make : X → Y) (test : X → Bool) (xs : 
     → had ++ map make (filter test (drop i xs)) ≡ all → has ++ map make (filter test (drop (i + 1) xs)) ≡ all
 unchanged-added make test xs i x passes had has all within is passed adds so_far = search (rules, unchanged-first, drop_more)
 
--- where each makes one, and adds it if that passes a test
-
-one-added : {Y : Type 0} (passes : Bool) (y : Y) (rest had has : List Y) → has ≡ had ++ (if passes then y ∷ [] else []) → has ++ rest ≡ had ++ cond passes (y ∷ rest) rest
-one-added true y rest had has adds = ap (λ (list : List _). list ++ rest) adds ∙ append_assoc had (y ∷ []) rest
-one-added false y rest had has adds = ap (λ (list : List _). list ++ rest) adds ∙ append_assoc had [] rest
-
-pub made-added : {X Y : Type 0} (make : X → Y) (test : Y → Bool) (xs : List X) (i : ℕ) (x : X) (y : Y) (passes : Bool) (had has all : List Y) → i < length xs → x ≡ get_or xs i x
-    → y ≡ make x → passes ≡ test y → has ≡ had ++ (if passes then y ∷ [] else [])
-    → had ++ filter test (map make (drop i xs)) ≡ all → has ++ filter test (map make (drop (i + 1) xs)) ≡ all
-made-added {X} {Y} make test xs i x y passes had has all within is made passed adds so_far =
-    let rest = filter test (map make (drop (i + 1) xs)) in
-    let cut : drop i xs ≡ x ∷ drop (i + 1) xs = drop_more xs i x within ∙ ap (λ (z : X). z ∷ drop (i + 1) xs) (sym is) in
-    one-added passes y rest had has adds
-    ∙ ap (λ (b : Bool). had ++ cond b (y ∷ rest) rest) passed
-    ∙ ap (λ (z : Y). had ++ cond (test z) (z ∷ rest) rest) made
-    ∙ ap (λ (left : List X). had ++ filter test (map make left)) (sym cut)
-    ∙ so_far
-
--- where each adds what it gives
-
-pub all-added : {X Y : Type 0} (f : X → List Y) (xs : List X) (i : ℕ) (x : X) (had has all : List Y) → i < length xs → x ≡ get_or xs i x → has ≡ had ++ f x
-    → had ++ flat_map f (drop i xs) ≡ all → has ++ flat_map f (drop (i + 1) xs) ≡ all
-all-added f xs i x had has all within is adds so_far = search (rules, append_assoc, drop_more)
-
 -- the variables of an area's PDOs
 
 pub names-added : {X : Type 0} (f : X → List Entry) (xs : List X) (i : ℕ) (d : X) (entries : List Entry) (had has all : List ℕ) → i < length xs → entries ≡ f (get_or xs i d)
     → has ≡ had ++ entry_names entries → had ++ entry_names (flat_map f (drop i xs)) ≡ all → has ++ entry_names (flat_map f (drop (i + 1) xs)) ≡ all
 names-added f xs i d entries had has all within own adds so_far = search (rules, append_assoc, filter_map-append, drop_more)
-
--- a moved area that is met, and its place
-pub is_placed-at : (moved_areas : List MovedArea) (i : ℕ) (moved_area : MovedArea) (placed : Placed) → All (λ m. IsInside m.found) moved_areas → i < length moved_areas
-    → moved_area ≡ get_or moved_areas i moved_area → moved_area.found.place ≡ Some placed → HoldsArea moved_area.found.area placed
-is_placed-at moved_areas i moved_area placed all within is place = search rules
 
 -- where those that go with one slave more are added
 

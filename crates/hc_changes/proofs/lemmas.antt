@@ -15,8 +15,6 @@ pub mod Keeping
 pub mod UnchangedSpans
 pub mod Lists
 pub mod Moved
-pub mod MovedAreas
-pub mod MovedBlocks
 pub mod Names
 pub mod OneProject
 pub mod Others

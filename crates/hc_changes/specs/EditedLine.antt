@@ -1,13 +1,12 @@
 -- What an edit makes of a line, reported before it is carried out.
-use Rattle.std.specs.Prelude.{◌≡◌, List, None, map, ℕ, Option, slice_get}
+use Rattle.std.specs.Prelude.{◌≡◌, List, None, map}
 use Rattle.hc_records.specs.declared.records.Declared.{Declared}
-use Rattle.hc_records.specs.declared.records.Area.{Area}
 use Rattle.hc_records.specs.Line.{groups_of, line_from}
 use Rattle.hc_records.specs.Project.{lowest_fault}
 use Rattle.hc_groups.specs.declared.prepared.Prepared.{Prepared}
 use Rattle.hc_groups.specs.Changes.{changed_groups}
 use Rattle.hc_groups.specs.Rows.{areas_in_line, first_rank_of, row}
-use Rattle.hc_cuts.specs.Areas.{areas_by_rank, areas_of_rank}
+use Rattle.hc_cuts.specs.Areas.{areas_by_rank}
 use Rattle.hc_cuts.specs.LineChange.{LineChange, changes}
 use Rattle.hc_cuts.specs.ApplyWidths.{AreLines}
 use Rattle.hc_changes.specs.MaybeMovedAreas.{MaybeMoved, DifferAt, maybe_moved_of, maybe_moved_areas}
@@ -43,7 +42,3 @@ pub record IsEditedLine (edited_line : EditedLine) : Type 0 where
 abbrev pub maybe_moved_areas_of : EditedLine → List MaybeMoved
 maybe_moved_areas_of edited_line =
     map (maybe_moved_of (line_from 1 edited_line.new)) (maybe_moved_areas (changes edited_line.change) (line_from 1 edited_line.old) (line_from 1 edited_line.new))
-
--- the area with an index that the slave with a rank had before the edit, if it had one
-abbrev pub area_in_old_line : EditedLine → ℕ → ℕ → Option Area
-area_in_old_line edited_line rank index = slice_get (areas_of_rank (areas_by_rank edited_line.old) rank) index

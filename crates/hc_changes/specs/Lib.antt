@@ -4,7 +4,6 @@ pub mod Edited
 pub mod EditedLine
 pub mod Laws
 pub mod Moved
-pub mod MovedAreas
 pub mod Rows
 pub mod Tables
 pub mod inner

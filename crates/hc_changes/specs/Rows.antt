@@ -1,5 +1,4 @@
--- Which variables of a line an edit changes, given by the moved areas and by the slaves that
--- change.
+-- Which variables of a line an edit changes, given by its candidates and by the slaves that change.
 use Rattle.std.specs.Prelude.{◌≡◌, ℕ, ◌+◌, ◌==◌, ◌<◌, ◌≤◌, not, Bool, List, [], ◌++◌, filter, find, map, None, Some, option_map}
 use Rattle.std.specs.List.{flat_map, list_any, zip}
 use Rattle.std.specs.Option.{option_map_or}
@@ -15,7 +14,6 @@ use Rattle.hc_places.specs.Swap.{AreOnce, ChangedRow, new_place, same_found}
 use Rattle.hc_places.specs.Table.{VariableRow, Table, place_in}
 use Rattle.hc_cuts.specs.LineChange.{LineChange}
 use Rattle.hc_changes.specs.MaybeMovedAreas.{MaybeMoved}
-use Rattle.hc_changes.specs.MovedAreas.{MovedArea}
 
 -- the variables of a candidate with their places; none where it is nowhere
 abbrev pub rows_of : MaybeMoved → List VariableRow
@@ -53,13 +51,13 @@ gone_variables slave = filter (λ variable. not (is_assigned variable slave.1)) 
 abbrev pub gone_rows : LineChange → List ChangedRow
 gone_rows change = map (λ variable. (variable, None)) (flat_map gone_variables (zip change.areas_before change.areas_after))
 
--- those of the variables of moved areas
-abbrev pub rows_of_moved_areas : List MovedArea → List VariableRow
-rows_of_moved_areas moved_areas = flat_map (λ moved_area. rows_of moved_area.found) moved_areas
+-- the variables of candidates with their places
+abbrev pub candidate_rows : List MaybeMoved → List VariableRow
+candidate_rows candidates = flat_map rows_of candidates
 
--- what an edit changes of an old table: the moved areas' variables that are elsewhere, then the variables that go with the changed slaves' areas
-abbrev pub changed_rows : Table → List MovedArea → LineChange → List ChangedRow
-changed_rows old moved_areas change = moved_rows old (rows_of_moved_areas moved_areas) ++ gone_rows change
+-- what an edit changes of an old table: the candidates' variables that are elsewhere, then the variables that go with the changed slaves' areas
+abbrev pub changed_rows : Table → List MaybeMoved → LineChange → List ChangedRow
+changed_rows old candidates change = moved_rows old (candidate_rows candidates) ++ gone_rows change
 
 -- a place lies in one of 16 datagrams of one of the eight tasks, and holds the area, whose entries have 1 to 64 bits
 pub record HoldsArea (area : Area) (placed : Placed) : Type 0 where

@@ -1,4 +1,3 @@
 -- Words that contracts of private functions alone use.
 pub mod Found
 pub mod LineChanges
-pub mod Moved

@@ -93,7 +93,7 @@ impl<'a> EditedLine<'a> {
     ghost use Rattle.hc_cuts.specs.Areas.{areas_of_rank, areas_by_rank};
     ghost use Rattle.hc_cuts.specs.LineChange.{changes};
     ghost use Rattle.hc_changes.specs.Edited.{HasEdit};
-    ghost use Rattle.hc_changes.specs.EditedLine.{IsEditedLine, edited_line_of, area_in_old_line};
+    ghost use Rattle.hc_changes.specs.EditedLine.{IsEditedLine, edited_line_of};
 
     /// What a prepared edit makes of the line of the groups of a project, which it leaves a project's. It takes no memory.
     pub fn of(groups: &'a Indexed<'a>, prepared: &'a Prepared) -> EditedLine<'a>
@@ -152,18 +152,6 @@ impl<'a> EditedLine<'a> {
             Some(index) => self.change.areas_after(index),
             None if present => slave.areas.as_slice(),
             None => &[],
-        }
-    }
-
-    /// The area with an index that a slave had in the line before the edit, by its rank and the area with
-    /// that index that it has after it; none where it had no such area.
-    pub fn area_before<'b>(&'b self, rank: u16, index: u8, area: &'b Area) -> Option<&'b Area>
-        requires { slice_get (areas_of_rank (areas_by_rank self.now.new) rank) index ≡ Some area.now }
-        ensures { MatchOption result (area_in_old_line self.now rank index ≡ None) (λ found. area_in_old_line self.now rank index ≡ Some found.now) }
-    {
-        match self.change.index_of(rank) {
-            Some(slave) => self.change.areas_before(slave).get(usize::from(index)),
-            None => Some(area),
         }
     }
 }

@@ -7,8 +7,8 @@ pub mod edited_line;
 pub mod finding;
 pub mod laws;
 pub mod maybe_moved_areas;
-pub mod moved;
-pub mod moved_areas;
 mod ranks;
 pub mod rows;
 pub mod tables;
+
+pub use edited_line::EditedLine;

@@ -2,9 +2,9 @@
 ghost use Rattle.std.specs.Prelude.{◌≡◌, ◌++◌, ◌==◌, All, IfOk, OnOk, map, None};
 ghost use Rattle.std.specs.List.{list_any};
 ghost use Rattle.hc_records.specs.Project.{entry_names};
-ghost use Rattle.hc_changes.specs.Rows.{IsInside, area_variables_of, assigned_variables, changed_rows, gone_rows, gone_variables, is_new_row, moved_rows, rows_of_moved_areas, rows_of_gone};
+ghost use Rattle.hc_changes.specs.Rows.{IsInside, area_variables_of, assigned_variables, candidate_rows, changed_rows, gone_rows, gone_variables, is_new_row, moved_rows, rows_of, rows_of_gone};
 
-use crate::moved_areas::MovedArea;
+use crate::maybe_moved_areas::MaybeMoved;
 use hc_cuts::line_change::LineChange;
 use hc_places::swap::ChangedRow;
 use hc_places::table::{Place, Places};
@@ -14,20 +14,28 @@ use hc_records::records::{Area, Entry, VarId};
 use hc_records::task::Task;
 use std::alloc::{AllocError, Global};
 
-/// The variables of moved areas with their places.
-fn moved_area_rows(
+/// Adds the variables of a candidate with their places; none where it is nowhere.
+fn add_candidate(rows: &mut Vec<(VarId, Place)>, candidate: &MaybeMoved) -> Result<(), AllocError>
+    requires { IsInside candidate.now }
+    ensures { OnOk result (rows.new.items ≡ rows.old.items ++ rows_of candidate.now) }
+{
+    match candidate.place {
+        Some(placed) => add_area(rows, Task(candidate.area.task), candidate.area, placed),
+        None => Ok(()),
+    }
+}
+
+/// The variables of candidates with their places.
+fn candidate_rows(
     alloc: Global,
-    moved_areas: &[MovedArea],
+    candidates: &[MaybeMoved],
 ) -> Result<Vec<(VarId, Place)>, AllocError>
-    requires { All (λ moved_area. IsInside moved_area.found) moved_areas.now }
-    ensures { IfOk result (λ rows. rows.items ≡ rows_of_moved_areas moved_areas.now) }
+    requires { All IsInside candidates.now }
+    ensures { IfOk result (λ rows. rows.items ≡ candidate_rows candidates.now) }
 {
     let mut rows = Vec::new(alloc);
-    for moved_area in moved_areas {
-        let found = moved_area.found;
-        if let Some(placed) = found.place {
-            add_area(&mut rows, Task(found.area.task), found.area, placed)?;
-        }
+    for candidate in candidates {
+        add_candidate(&mut rows, candidate)?;
     }
     Ok(rows)
 }
@@ -154,21 +162,21 @@ fn add_slaves(
     Ok(())
 }
 
-/// What an edit changes of the places of a line's variables, by the candidates that move, what differs in the line, and
-/// the table of the line before the edit: the moved areas' variables that were elsewhere or nowhere, each with its new
-/// place, and then the variables that the slaves that change carried and don't carry any more, without one. For an
-/// edit's own moved areas they are the variables that are elsewhere, appear or go with the edit, each once. Each moved
-/// area's place lies in one of 16 datagrams. `AllocError` where a growth was refused.
+/// What an edit changes of the places of a line's variables, by its candidates, what differs in the line, and the table
+/// of the line before the edit: the candidates' variables that were elsewhere or nowhere, each with its new place, and
+/// then the variables that the slaves that change carried and don't carry any more, without one. For an edit's own
+/// candidates they are the variables that are elsewhere, appear or go with the edit, each once. Each candidate's place
+/// lies in one of 16 datagrams. `AllocError` where a growth was refused.
 pub fn changed_rows(
     alloc: Global,
     old: &Places,
-    moved_areas: &[MovedArea],
+    candidates: &[MaybeMoved],
     change: &LineChange,
 ) -> Result<Vec<ChangedRow>, AllocError>
-    requires inside { All (λ moved_area. IsInside moved_area.found) moved_areas.now }
-    ensures { IfOk result (λ rows. rows.items ≡ changed_rows old.now moved_areas.now change.now) }
+    requires inside { All IsInside candidates.now }
+    ensures { IfOk result (λ rows. rows.items ≡ changed_rows old.now candidates.now change.now) }
 {
-    let found = moved_area_rows(alloc, moved_areas)?;
+    let found = candidate_rows(alloc, candidates)?;
     let mut rows = Vec::new(alloc);
     add_moved(&mut rows, old, &found)?;
     add_slaves(alloc, &mut rows, old, change)?;

@@ -15,7 +15,7 @@ use Rattle.hc_records.specs.Image.{VariablePlace}
 use Rattle.hc_places.specs.Table.{Table}
 use Rattle.hc_images.specs.Packed.{offset_in}
 use Rattle.hc_images.specs.Values.{table_image_bit}
-use Rattle.hc_conductor.specs.declared.one_thread.settings.Setting.{Setting}
+use Rattle.hc_records.specs.declared.setting.Setting.{Setting}
 use Rattle.hc_conductor.specs.Posting.{covers, set_bit}
 use Rattle.hc_conductor.specs.Viewing.{viewed_place}
 use Rattle.hc_conductor.proofs.Takings.{whole-list}

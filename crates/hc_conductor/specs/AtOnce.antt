@@ -1,4 +1,4 @@
--- The parts of tasks that are sent together.
+-- The parts of tasks in frames that are sent together.
 use Rattle.std.specs.Prelude.{◌≡◌, ℕ, ◌<◌, All, List, length, map, slice_index_or}
 use Rattle.hc_events.specs.Entries.{History}
 use Rattle.hc_events.specs.Outputs.{sent_data}
@@ -22,6 +22,6 @@ pub record CanFillPart (history : History) (frames : List Frame) (tasks : List �
   pub is_placed : part < length tasks
   pub exact : length bytes ≡ part_size (line_of history) (task_at tasks part) frames
 
--- what is then written there
+-- the bytes that are written into the part with this number
 abbrev pub part_written_at : History → List Frame → List ℕ → ℕ → List ℕ
 part_written_at history frames tasks part = part_text (sent_data history) (task_at tasks part) frames

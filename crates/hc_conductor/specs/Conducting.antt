@@ -1,4 +1,5 @@
--- What contracts see of a conductor: its core, its publisher, the changes on their way from the one to the other, and where posts come in.
+-- A conductor, as contracts see it: its core, its publisher, the changes on their way from the one to the other, and the ends
+-- at which posts come in.
 use Rattle.std.specs.Prelude.{◌≡◌, List, ◌++◌, length, map, reverse}
 use Rattle.hc_records.specs.declared.limits.TheConstants.{TASKS}
 use Rattle.hc_records.specs.Line.{opened}
@@ -13,14 +14,15 @@ use Rattle.hc_publish.specs.PublishedState.{PublishedState}
 use Rattle.hc_publish.specs.Stories.{Origin}
 use Rattle.hc_rings.specs.declared.posts.PostReceiver.{PostReceiver}
 
--- what is seen of the core and of the publisher, and the changes that were taken from the one and not appended to the other, the oldest first; and the ends where the tasks' posts come in, task i's at place i
+-- the core, the publisher, the changes that were taken from the one and not yet appended to the other, the oldest first, and
+-- the ends at which the tasks' posts come in, task i's at index i
 pub record Conducting : Type 0 where
   pub core : CoreState
   pub published_state : PublishedState
   pub waiting : List Change
   pub rings : List PostReceiver
 
--- the history of what the core accepted
+-- the history of the core
 abbrev pub core_history : Conducting → History
 core_history c = c.core.history
 
@@ -36,7 +38,7 @@ conductor_pending c = published_state.pending c.published_state
 abbrev pub changes_with : PublishedState → List Change → List Change
 changes_with p waiting = published_state.published p ++ published_state.pending p ++ reverse waiting
 
--- which publisher the conductor's seats and notes belong to
+-- the publisher that the conductor's seats and notes belong to
 abbrev pub conductor_origin : Conducting → Origin
 conductor_origin c = published_state.origin_of c.published_state
 
@@ -44,7 +46,8 @@ conductor_origin c = published_state.origin_of c.published_state
 abbrev pub all_taken : Conducting → List Change
 all_taken c = conductor_published c ++ conductor_pending c ++ c.waiting
 
--- what is true of every conductor: its groups are those of the project that was opened; all changes in a row are legal for it, give the updates of the record as it was when changes were last taken, and lead to the state that it had then; it has a ring for each
+-- the invariant of a conductor: its groups are those of the opened project; all changes in a row are legal for it, give the
+-- updates of the record as it was when changes were last taken, and lead to the state that it had then; it has a ring for each
 -- task
 pub record IsConducting (c : Conducting) : Type 0 where
   pub groups : (conductor_origin c).groups ≡ opened_with (core_history c)
@@ -57,7 +60,7 @@ pub record IsConducting (c : Conducting) : Type 0 where
 abbrev pub SameChanges : Conducting → Conducting → Type 0
 SameChanges p q = (q.core.taken ≡ p.core.taken) × (q.published_state ≡ p.published_state) × (q.waiting ≡ p.waiting)
 
--- nothing but the core's record has changed: no change was taken, appended or published, and no post taken
+-- only the core's record has changed: no change was taken, appended or published, and no post was taken
 abbrev pub SameLists : Conducting → Conducting → Type 0
 SameLists p q = SameChanges p q × (q.rings ≡ p.rings)
 

@@ -1,4 +1,4 @@
--- What contracts see of a master, by its fields.
+-- A master by its fields, as contracts see it.
 use Rattle.hc_conductor.specs.declared.one_thread.master.Master.TheInside.{Inside}
 use Rattle.hc_conductor.specs.Mastering.{IsMastering, Mastering}
 
@@ -6,6 +6,6 @@ use Rattle.hc_conductor.specs.Mastering.{IsMastering, Mastering}
 abbrev pub mastering_in : Inside → Mastering
 mastering_in m = record { conductor = m.conductor; seats = m.seats.items }
 
--- what is true of every master
+-- the invariant of a master
 abbrev pub IsSoundMaster : Inside → Type 0
 IsSoundMaster m = IsMastering (mastering_in m)

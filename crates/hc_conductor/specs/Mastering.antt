@@ -1,4 +1,4 @@
--- What contracts see of a master: its conductor, and the seats of its tasks.
+-- A master, as contracts see it: its conductor, and the seats of its tasks.
 use Rattle.std.specs.Prelude.{◌≡◌, List, None, map, replicate}
 use Rattle.std.specs.List.{range_with_len}
 use Rattle.hc_records.specs.declared.limits.TheConstants.{TASKS}
@@ -17,7 +17,7 @@ pub record Mastering : Type 0 where
   pub conductor : Conducting
   pub seats : List TaskSeat
 
--- the history of what the core accepted
+-- the history of the core
 abbrev pub master_history : Mastering → History
 master_history m = conducting.core_history m.conductor
 
@@ -25,7 +25,7 @@ master_history m = conducting.core_history m.conductor
 abbrev pub master_published : Mastering → List Change
 master_published m = conducting.conductor_published m.conductor
 
--- what is shown: the groups that were opened, with the changes that are published
+-- the state that is shown: the opened groups, with the published changes
 abbrev pub master_shown : Mastering → ChangesSince
 master_shown m = record { groups = (conductor_origin m.conductor).groups; changes = master_published m }
 
@@ -33,7 +33,8 @@ master_shown m = record { groups = (conductor_origin m.conductor).groups; change
 abbrev pub waiting : Mastering → List (List Post)
 waiting m = posts_waiting (map sender m.seats) m.conductor.rings
 
--- what is true of every master: seat i is task i's and of this conductor, knows just what is published, holds no outputs, and has lost no buffer of its ring
+-- the invariant of a master: seat i is task i's and this conductor's, knows exactly what is published, holds no outputs, and
+-- has lost no buffer of its ring
 pub record IsMastering (m : Mastering) : Type 0 where
   pub tasks : map seat_task m.seats ≡ range_with_len 0 TASKS
   pub known : map seat_known m.seats ≡ replicate TASKS (master_published m)
@@ -41,6 +42,6 @@ pub record IsMastering (m : Mastering) : Type 0 where
   pub none_held : map seat_held m.seats ≡ replicate TASKS None
   pub whole : EachRing LostNoBuffer (map sender m.seats) m.conductor.rings
 
--- what is shown, and what waits, is as it was
+-- the shown state and the waiting posts are unchanged
 abbrev pub SameTasks : Mastering → Mastering → Type 0
 SameTasks old new = (master_shown new ≡ master_shown old) × (waiting new ≡ waiting old)

@@ -1,4 +1,4 @@
--- What is opened, and why nothing is.
+-- Opening of a conductor, and its failures.
 use Rattle.std.specs.Prelude.{◌≡◌, ℕ, List, [], ◌∷◌, None, Some}
 use Rattle.hc_records.specs.declared.records.Group.{Group}
 use Rattle.hc_records.specs.Edits.{over_limit_task}
@@ -16,7 +16,8 @@ pub record IsOpenable (groups : List Group) : Type 0 where
   pub project : lowest_fault groups ≡ None
   pub uncrowded : over_limit_task (line (opened groups)) ≡ None
 
--- a fault with a task names the lowest task of the opened line that needs more than 16 datagrams; a seat is refused only where the groups can be opened; a growth may be refused of any
+-- an opening fails: with a task, the lowest of the opened line that needs more than 16 datagrams; for want of a seat, only if
+-- the groups can be opened; for want of memory, in any case
 abbrev pub IsOpenFault : List Group → OpenFault → Type 0
 IsOpenFault groups (TooManyDatagrams task) = over_limit_task (line (opened groups)) ≡ Some task
 IsOpenFault groups Memory = Unit {0}
@@ -30,7 +31,7 @@ output_bytes table task = (part_in table task).0
 abbrev pub IsUnused : PostSender → Type 0
 IsUnused s = (posted s ≡ []) × (held s ≡ None) × PostsEach s
 
--- one by one the two ends of rings, and as many of both
+-- the two ends of rings, one by one, as many of both
 abbrev pub AreEnds : List PostSender → List PostReceiver → Type 0
 AreEnds [] [] = Unit {0}
 AreEnds (s ∷ ss) (r ∷ rs) = ArePostEnds s r × AreEnds ss rs

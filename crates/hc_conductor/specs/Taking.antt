@@ -1,4 +1,4 @@
--- What is taken of the tasks' posts.
+-- Posts that are taken from the tasks' rings.
 use Rattle.std.specs.Prelude.{◌≡◌, ℕ, ◌+◌, ◌≤◌, Bool, true, false, if◌then◌else◌, List, [], ◌∷◌, ◌++◌, filter, length, map, take}
 use mathlib.Core.List.{IsPrefix}
 use Rattle.hc_events.specs.declared.answer.Answer.{Answer}
@@ -64,16 +64,17 @@ was_accepted other = false
 abbrev pub posted_in : History → List Step → ℕ
 posted_in history steps = length (filter was_accepted (answers_to history steps))
 
--- one where it is so, else none
+-- 1 if it is true, else 0
 abbrev pub one_if : Bool → ℕ
 one_if b = if b then 1 else 0
 
--- accepted and refused count the events: a post is refused that the core refuses, and then leaves its record as it was
+-- the count of the accepted events and of the refused ones; a refused post leaves the core's record unchanged
 pub record CountsPosts (history : History) (steps : List Step) (answer_given : Taken) : Type 0 where
   pub accepted : answer_given.accepted ≡ posted_in history steps
   pub all : answer_given.accepted + answer_given.refused ≡ length steps
 
--- these posts, so many at most, came out of the ring, in order. Their buffers went back, where a place for each was known; no other buffer did
+-- these posts, at most this many, came out of the ring, in order; their buffers went back, if a place for each was known, and
+-- no other buffer did
 pub record AreTakenFrom (most : ℕ) (old new : PostReceiver) (posts : List Post) : Type 0 where
   pub few : length posts ≤ most
   pub ring : SameReceiver old new
@@ -81,40 +82,40 @@ pub record AreTakenFrom (most : ℕ) (old new : PostReceiver) (posts : List Post
   pub back : length posts ≤ spare_places old → given_back new ≡ given_back old ++ posts
   pub no_more : length (given_back new) ≤ length (given_back old) + length posts
 
--- where so many are known to be left, just these come out of the ring
+-- if this many posts are known to be left, exactly these come out of the ring
 abbrev pub TakesKnown : ℕ → PostReceiver → PostReceiver → Type 0
 TakesKnown n old new = n ≤ length (left old) → taken new ≡ taken old ++ take n (left old)
 
--- of each ring so many, where they are known
+-- if this many posts of each ring are known to be left, exactly these come out
 abbrev pub EachTakesKnown : List ℕ → List PostReceiver → List PostReceiver → Type 0
 EachTakesKnown [] [] [] = Unit {0}
 EachTakesKnown (n ∷ ns) (old ∷ olds) (new ∷ updates) = TakesKnown n old new × EachTakesKnown ns olds updates
 EachTakesKnown ns olds updates = ⊥
 
--- the posts that are known to wait, so many at most, are the first that come out of the ring
+-- the posts that are known to wait, at most this many, are the first that come out of the ring
 abbrev pub TakesWaiting : ℕ → PostReceiver → PostReceiver → Type 0
 TakesWaiting most old new = IsPrefix (taken old ++ take most (left old)) (taken new)
 
--- of each ring so many at most
+-- the posts of each ring that are known to wait, at most this many of each, are the first that come out
 abbrev pub EachTakesWaiting : List ℕ → List PostReceiver → List PostReceiver → Type 0
 EachTakesWaiting [] [] [] = Unit {0}
 EachTakesWaiting (n ∷ ns) (old ∷ olds) (new ∷ updates) = TakesWaiting n old new × EachTakesWaiting ns olds updates
 EachTakesWaiting ns olds updates = ⊥
 
--- of each ring these, at most four
+-- the posts of each ring that are known to wait, at most four of each, are the first that come out
 abbrev pub AreTaken : List PostReceiver → List PostReceiver → List (List Post) → Type 0
 AreTaken [] [] [] = Unit {0}
 AreTaken (old ∷ olds) (new ∷ updates) (posts ∷ others) = AreTakenFrom POSTS_WAITING old new posts × AreTaken olds updates others
 AreTaken olds updates others = ⊥
 
--- some posts of a task's ring, so many at most, became events of the core, in order
+-- some posts of a task's ring, at most this many, became events of the core, in order
 pub record TakesFrom (rule : PostRule) (task most : ℕ) (before after : CoreState) (old new : PostReceiver) (answer_given : Taken) : Type 0 where
   pub posts : List Post
   pub ring : AreTakenFrom most old new posts
   pub core : after ≡ record before { history = entries_after_all before.history (events_by rule task posts) }
   pub counts : CountsPosts before.history (events_by rule task posts) answer_given
 
--- so did some of each ring, from this task's on
+-- some posts of each ring, from this task's on, became events of the core, in order
 pub record TakesFromAll (rule : PostRule) (task : ℕ) (before after : CoreState) (old new : List PostReceiver) (answer_given : Taken) : Type 0 where
   pub posts : List (List Post)
   pub rings : AreTaken old new posts

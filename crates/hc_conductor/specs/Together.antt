@@ -1,4 +1,4 @@
--- A conductor and all its seats in one hand: what waits between them is known.
+-- A conductor and all its seats in one thread: the posts between them are known.
 use Rattle.std.specs.Prelude.{◌≡◌, ◌+◌, ◌≤◌, List, [], ◌∷◌, drop, length}
 use mathlib.Core.List.{IsPrefix}
 use Rattle.hc_rings.specs.declared.posts.TheConstants.{POSTS_WAITING, SPARE_BUFFERS}
@@ -11,7 +11,7 @@ use Rattle.hc_rings.specs.Ring.{ArePostEnds, PostsEach, given_back, held, known_
 abbrev pub waiting_between : PostSender → PostReceiver → List Post
 waiting_between s r = drop (length (taken r)) (posted s)
 
--- those of each ring
+-- the posts of each ring that wait to be taken
 abbrev pub posts_waiting : List PostSender → List PostReceiver → List (List Post)
 posts_waiting [] rs = []
 posts_waiting (s ∷ ss) [] = []
@@ -30,7 +30,8 @@ pub record LostNoBuffer (s : PostSender) (r : PostReceiver) : Type 0 where
   pub back : length (given_back r) ≡ SPARE_BUFFERS + length (taken r)
   pub order : IsPrefix (taken r) (posted s)
 
--- each end knows what the other did: what was taken is the beginning of what was posted, and what waits is known to be left; each other buffer that came back is known, and so is each place
+-- each end of a ring knows what the other did: the taken posts are the first of those that were made, and those that wait are
+-- known to be left; each buffer that came back is known, and so is each place
 pub record KnowAll (s : PostSender) (r : PostReceiver) : Type 0 where
   pub joined : AreJoined s r
   pub order : IsPrefix (taken r) (posted s)
@@ -39,7 +40,7 @@ pub record KnowAll (s : PostSender) (r : PostReceiver) : Type 0 where
   pub places : POSTS_WAITING + 1 ≤ known_places s + length (left r)
   pub room : length (left r) ≤ spare_places r
 
--- one by one the two ends of rings
+-- the two ends of rings, one by one
 abbrev pub EachRing : (PostSender → PostReceiver → Type 0) → List PostSender → List PostReceiver → Type 0
 EachRing P [] [] = Unit {0}
 EachRing P (s ∷ ss) (r ∷ rs) = P s r × EachRing P ss rs

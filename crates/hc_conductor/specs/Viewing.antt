@@ -1,4 +1,4 @@
--- What a task views of a variable.
+-- A task's view of a variable.
 use Rattle.std.specs.Prelude.{◌≡◌, ℕ, Option, Result, option_and_then}
 use Rattle.hc_records.specs.Image.{VariablePlace}
 use Rattle.hc_records.specs.Variables.{variable_of}
@@ -11,24 +11,25 @@ use Rattle.hc_events.specs.Points.{epoch_of, line_of}
 use Rattle.hc_places.specs.Table.{Table, place_in, table_of}
 use Rattle.hc_conductor.specs.declared.one_thread.viewing.Viewed.{Viewed}
 
--- where the variable with a number is; 0 is no variable's number
+-- the place of the variable with a number; 0 is no variable's number
 abbrev pub viewed_place : Table → ℕ → Option VariablePlace
 viewed_place table number = option_and_then (place_in table) (variable_of number)
 
--- the value of the variable with a number for a task, where this is shown; or why it gets none
+-- the value of the variable with a number for a task in what is shown, or the reason for which the task gets none
 abbrev pub value_answered : ChangesSince → ℕ → ℕ → Result ℕ ViewFault
 value_answered answer_given task number = value_by (data_shown answer_given) task (viewed_place (table_shown answer_given) number)
 
--- after a record: by the places of its line and the data that tasks read there
+-- the value of the variable with a number for a task after a record, by the places of its line and the data that tasks read
+-- there
 abbrev pub value_at : History → ℕ → ℕ → Result ℕ ViewFault
 value_at history task number = value_by (slot_of history) task (viewed_place (table_of (line_of history)) number)
 
--- a view of what is shown: its epoch, and the value in it
+-- a view of what is shown: the epoch, and the variable's value in it
 pub record IsViewOf (answer_given : ChangesSince) (task number : ℕ) (viewed : Viewed) : Type 0 where
   pub epoch : viewed.epoch ≡ epoch_shown answer_given
   pub value : viewed.value ≡ value_answered answer_given task number
 
--- the same after a record
+-- a view of all that a record gives: the epoch, and the variable's value in it
 pub record IsViewAfter (history : History) (task number : ℕ) (viewed : Viewed) : Type 0 where
   pub epoch : viewed.epoch ≡ epoch_of history
   pub value : viewed.value ≡ value_at history task number

@@ -1,4 +1,4 @@
--- What clauses see of a task's view.
+-- The view of a task, as clauses see it.
 use Rattle.std.specs.Prelude.{ℕ, List}
 use Rattle.hc_places.specs.Table.{Table}
 use Rattle.hc_events.specs.declared.change.Change.{Change}
@@ -8,26 +8,26 @@ use Rattle.hc_publish.specs.Stories.{Origin}
 use Rattle.hc_rings.specs.declared.posts.PostSender.{PostSender}
 use Rattle.hc_conductor.specs.declared.view.TaskView.{TaskView}
 
--- what the copy got that it looks at
+-- the content of the copy that is viewed
 abbrev pub answered_to : TaskView → ChangesSince
 answered_to v = v.view.changes_since
 
--- the table of what it shows
+-- the table of the line that a view shows
 abbrev pub view_table : TaskView → Table
 view_table v = table_shown (answered_to v)
 
--- the changes that it shows
+-- the changes that a view shows
 abbrev pub view_shown : TaskView → List Change
 view_shown v = inner.shown v.view
 
--- which conductor its seat belongs to
+-- the conductor that the view's seat belongs to
 abbrev pub task_view_origin : TaskView → Origin
 task_view_origin v = inner.view_origin v.view
 
--- its task
+-- the task of a view
 abbrev pub view_task : TaskView → ℕ
 view_task v = v.view.task
 
--- its seat's end of the ring of its posts
+-- the end of the ring of posts of the view's seat
 abbrev pub view_sender : TaskView → PostSender
 view_sender v = v.posts

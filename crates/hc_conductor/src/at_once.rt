@@ -1,4 +1,4 @@
-//! Tasks are sent into one arena, with a worker for each of them.
+//! Sending of tasks into one arena, with a worker for each task.
 ghost use Rattle.std.specs.Prelude.{◌≡◌, ◌≢◌, ◌*◌, ◌≤◌, ◌<◌, ◌^◌, ◌++◌, All, Err, IfErr, IfOk, IfSome, None, OnErr, OnOk, Some, drop, length, sum, sum_by};
 ghost use Rattle.std.specs.List.{flat_map};
 ghost use Rattle.hc_records.specs.Lists.{lowest};
@@ -42,7 +42,7 @@ impl PartWork for TaskParts<'_> {
     }
 }
 
-/// Writes the size of each task's part to `sizes`, in bytes. The recursion is as deep as there are tasks: eight at most.
+/// Writes the size of each task's part to `sizes`, in bytes. There are at most eight tasks, which bounds the recursion.
 fn put_sizes(core: &Core, frames: &[Sending], tasks: &[u8], sizes: &mut [u32])
     requires can { All (CanBeFilled core.now.history) frames.now }
     requires few { length frames.now ≤ SETUP_SERIAL }
@@ -90,7 +90,7 @@ fn fill_at_once<R: Threads + Sync, G: Gate + Sync>(
 }
 
 /// Fills the frames of a proposal into the first `size` bytes of the arena. Each task's part has a worker of its own. The rest
-/// of the arena stays as it was.
+/// of the arena is unchanged.
 fn fill_front_at_once<R: Threads + Sync, G: Gate + Sync>(
     rt: &R,
     core: &Core,
@@ -115,10 +115,10 @@ fn fill_front_at_once<R: Threads + Sync, G: Gate + Sync>(
 }
 
 impl Conductor {
-    /// Tasks are sent as `send` sends them, with the same answers, frames and bytes, each task's part of the arena written
-    /// by a worker of its own, all at once. Each worker calls the gate once, with its task's place among the tasks, before
-    /// it writes. It returns once all are done. A part is written in this thread where the system makes none for it; no
-    /// clause says that the workers run at once.
+    /// Sends tasks with the results of `send`: answers, frames and bytes are equal. Each task's part of the arena is written by
+    /// a worker of its own, all at once. Each worker calls the gate once, with its task's place among the tasks, before it
+    /// writes. The call returns when all workers have ended. If the system starts no worker for a part, this thread writes it.
+    /// No clause says that the workers run at once.
     pub fn send_at_once<R: Threads + Sync, G: Gate + Sync>(
         &mut self,
         rt: &R,

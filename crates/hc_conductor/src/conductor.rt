@@ -5,13 +5,14 @@ use hc_publish::publisher::Publisher;
 use hc_rings::PostReceiver;
 use std::marker::Model;
 
-/// The core and the publisher of one line, and where its tasks' posts come in, which one thread owns. It is not `Drop`: end it by `finish`.
+/// The core and the publisher of one line, and the ends at which its tasks' posts come in. One thread owns it. It is not
+/// `Drop`: end it by `finish`.
 pub struct Conductor {
     pub(crate) core: Core,
     pub(crate) publisher: Publisher,
     // changes that were taken from the core and not appended, the newest first
     pub(crate) waiting: Vec<Change>,
-    // where each task's posts come in, task i's at place i
+    // the ends at which the tasks' posts come in, task i's at index i
     pub(crate) rings: Vec<PostReceiver>,
 }
 

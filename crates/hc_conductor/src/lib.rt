@@ -1,5 +1,5 @@
-//! What a master embeds: one thread owns the conductor, with the core and the publisher; each task has a seat, which
-//! views what was published, posts what is to be sent, and waits for nobody.
+//! The conductor, which a master embeds. One thread owns it, with the core and the publisher. Each task has a seat: it views
+//! what was published, posts what is to be sent, and waits for nobody.
 #![tactic(auto)]
 
 mod at_once;
@@ -15,4 +15,5 @@ mod together;
 pub mod view;
 mod viewer;
 
+pub use conductor::Conductor;
 pub use opening::open;

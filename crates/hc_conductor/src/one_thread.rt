@@ -1,5 +1,5 @@
-//! A conductor with the seats of its eight tasks, all in one thread: what a single-threaded master and the program hold.
-//! A task views just what was published last, and what waits between the tasks and the core is known.
+//! A conductor with the seats of its eight tasks, all in one thread, for single-threaded masters and the program. A task views
+//! exactly what was published last, and the posts that wait are known.
 mod events;
 mod learning;
 pub mod master;

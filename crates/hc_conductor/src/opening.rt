@@ -1,4 +1,4 @@
-//! How it all begins.
+//! Opening of a conductor and its seats.
 ghost use Rattle.std.specs.Prelude.{◌≡◌, ◌≤◌, ℕ, [], All, IfErr, IfOk, OnOk, length, map, vec_len, vec_capacity};
 ghost use Rattle.std.specs.List.{range_with_len};
 ghost use Rattle.hc_records.specs.declared.limits.TheConstants.{TASKS};
@@ -27,8 +27,8 @@ use hc_rings::{PostReceiver, PostSender, post_ring};
 use std::alloc::{AllocError, Global};
 use std::sync::Wait;
 
-/// The core of a project at its opening. `TooManyDatagrams` with the lowest task that needs more than 16 datagrams; `Memory` if
-/// a growth is refused.
+/// Returns the core of a project at its opening. Fails with `TooManyDatagrams` and the lowest task that needs more than 16
+/// datagrams, or with `Memory` if an allocation fails.
 fn core_of(alloc: Global, project: Project) -> Result<Core, OpenFault>
     ensures opened { IfOk result (λ core. core ≡ record { history = just_opened project; taken = just_opened project }) }
     ensures openable { OnOk result (IsOpenable project) }
@@ -41,7 +41,7 @@ fn core_of(alloc: Global, project: Project) -> Result<Core, OpenFault>
     }
 }
 
-/// Both ends of a ring of posts for each of the eight tasks. `AllocError` if a growth is refused.
+/// Returns both ends of a ring of posts for each of the eight tasks. `AllocError` if an allocation fails.
 fn rings(alloc: Global) -> Result<(Vec<PostSender>, Vec<PostReceiver>), AllocError>
     ensures count { IfOk result (λ ends. (length ends.0.items ≡ TASKS) × (length ends.1.items ≡ TASKS)) }
     ensures ends { IfOk result (λ ends. AreEnds ends.0.items ends.1.items) }
@@ -58,7 +58,7 @@ fn rings(alloc: Global) -> Result<(Vec<PostSender>, Vec<PostReceiver>), AllocErr
     Ok((senders, receivers))
 }
 
-/// The seat of each task, in order, with its end of the task's ring, epoch 0, and the size of its outputs in bytes.
+/// Returns the seat of each task, in order, with its end of the task's ring, epoch 0, and the size of its outputs in bytes.
 fn task_seats(
     room: Vec<TaskSeat>,
     seats: Vec<Seat>,
@@ -93,11 +93,14 @@ fn task_seats(
     all
 }
 
-/// Opens a project: a conductor whose core has it opened, where nothing is published yet, and a seat for each of the
-/// eight tasks, task i's at place i. What a seat posts comes in at the conductor's ring of its task; it has the
-/// opening's output bytes, and nothing is posted yet. `TooManyDatagrams` with the lowest task of the opening line that
-/// needs more than 16 datagrams; `Memory` where a growth was refused; `NoSeat` where a seat was. The project is then
-/// dropped. All growths but those of later events and changes are made here.
+/// Opens a project. Returns a conductor, whose core has opened it and which has published nothing yet, and the seats of the
+/// eight tasks, task i's at index i. The posts of a seat come in at the conductor's ring of its task. A seat has the output
+/// bytes of the opening, and has posted nothing yet. It makes all allocations except those for later events and changes. Fails
+/// with one of these; then the project is dropped:
+///
+/// - `TooManyDatagrams`: a task of the opening line needs more than 16 datagrams. The lowest such task is returned.
+/// - `Memory`: an allocation failed.
+/// - `NoSeat`: the published copies gave no seat.
 pub fn open<R: Wait>(
     rt: &R,
     alloc: Global,

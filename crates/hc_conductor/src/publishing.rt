@@ -1,4 +1,4 @@
-//! Changes go from the core to the views.
+//! Publishing: changes go from the core to the views.
 ghost use Rattle.std.specs.Prelude.{◌≡◌, [], ◌++◌, OnErr, OnOk, reverse};
 ghost use Rattle.hc_conductor.specs.Conducting.{changes_with, IsConducting, PublishesAll, all_taken, conductor_origin, core_history, conductor_pending, conductor_published};
 ghost use mathlib.Core.List.{IsPrefix};
@@ -15,7 +15,7 @@ use std::alloc::{AllocError, Global};
 use std::mem;
 use std::sync::Wait;
 
-/// Appends changes from the back of the list until it is empty. `AllocError` if a growth is refused; the change then goes back
+/// Appends changes from the back of the list until it is empty. `AllocError` if an allocation fails; the change then goes back
 /// to the list's end.
 fn append_all(publisher: &mut Publisher, waiting: &mut Vec<Change>) -> Result<(), AllocError>
     requires { AreLegal (published_state.origin_of publisher.old).groups (changes_with publisher.old waiting.old.items) }
@@ -33,8 +33,8 @@ fn append_all(publisher: &mut Publisher, waiting: &mut Vec<Change>) -> Result<()
     Ok(())
 }
 
-/// Hands the core the memory of good answers that both copies have taken in, for the next answers. A line has 16 datagrams in
-/// each of eight tasks at most, so there are no more.
+/// Returns the buffers of good answers that both copies have applied to the core, which uses them for the next answers. A line
+/// has at most 16 datagrams in each of eight tasks, which bounds their number.
 fn give_back(publisher: &Publisher, core: &mut Core)
     ensures { core.new ≡ core.old }
 {
@@ -47,7 +47,7 @@ fn give_back(publisher: &Publisher, core: &mut Core)
 }
 
 impl Conductor {
-    /// Appends the waiting changes, in order. `AllocError` if a growth is refused; the rest then waits.
+    /// Appends the waiting changes, in order. `AllocError` if an allocation fails; the rest then waits.
     fn append(&mut self) -> Result<(), AllocError>
         ensures core { self.new.core ≡ self.old.core }
         ensures published { conductor_published self.new ≡ conductor_published self.old }
@@ -60,7 +60,7 @@ impl Conductor {
         append_all(&mut self.publisher, &mut self.waiting)
     }
 
-    /// Takes the core's changes, while none waits.
+    /// Takes the core's changes. No change may wait.
     fn take_changes(&mut self, alloc: Global)
         requires { self.old.waiting ≡ [] }
         ensures core { self.new.core ≡ record { history = core_history self.old; taken = core_history self.old } }
@@ -74,8 +74,8 @@ impl Conductor {
         self.waiting = changes;
     }
 
-    /// Publishes all that was appended, while no change waits. `AllocError` if a growth is refused; what is shown is then as it
-    /// was.
+    /// Publishes everything that was appended. No change may wait. `AllocError` if an allocation fails; then what is shown is
+    /// unchanged.
     fn show<R: Wait>(&mut self, rt: &R) -> Result<(), AllocError>
         requires { self.old.waiting ≡ [] }
         ensures core { self.new.core ≡ self.old.core }
@@ -90,11 +90,10 @@ impl Conductor {
         self.publisher.publish(rt)
     }
 
-    /// Shows the views to come all that the core's events changed so far: the changes that wait from before are
-    /// appended in order, then those of the core since the last taking, and then all of them are published. After Ok
-    /// the published list says all the record's updates. It waits while a view of the old copy lives. `AllocError`
-    /// where a growth was refused: then nothing new is published, nothing is lost or reported twice, and a later
-    /// call goes on where this one stopped.
+    /// Publishes all changes of the core's events so far: first those that wait from an earlier call, then those since the
+    /// core's changes were last taken. Views that begin later show them. After `Ok` the published list gives all updates of the
+    /// core's record. It waits while a view of the old copy lives. `AllocError` if an allocation fails: nothing new is
+    /// published, no change is lost or published twice, and the next call continues.
     pub fn publish<R: Wait>(&mut self, rt: &R, alloc: Global) -> Result<(), AllocError>
         ensures record { core_history self.new ≡ core_history self.old }
         ensures origin { conductor_origin self.new ≡ conductor_origin self.old }
@@ -113,7 +112,7 @@ impl Conductor {
         Ok(())
     }
 
-    /// A note of what is published, for each seat of this conductor to learn.
+    /// Returns a note of what is published, which each seat of this conductor can learn.
     pub fn note(&self) -> Note
         ensures carried { noted_changes result ≡ conductor_published self.now }
         ensures origin { note_origin result ≡ conductor_origin self.now }
@@ -121,8 +120,8 @@ impl Conductor {
         self.publisher.note()
     }
 
-    /// The core, whose record is the conductor's. All that was taken from it gives the updates of its record as it
-    /// was then (`is_placed`).
+    /// Returns the core, whose record is the conductor's. The changes that were taken from it give the updates of its record as
+    /// it was then (`is_placed`).
     pub fn core(&self) -> &Core
         ensures core { result.now ≡ self.now.core }
         ensures is_placed { IsConducting self.now }
@@ -130,8 +129,8 @@ impl Conductor {
         &self.core
     }
 
-    /// Ends the conductor, its only end. It waits for the views that live, and takes no memory. Seats that are left
-    /// are given no view any more, and nobody takes what they post.
+    /// Ends the conductor; it has no other end. It waits for the views that live, and allocates nothing. Seats that remain get
+    /// no view any more, and their posts are never taken.
     pub fn finish<R: Wait>(self, rt: &R) {
         let Conductor {
             core: _,

@@ -1,4 +1,4 @@
-//! Tasks are sent into one arena.
+//! Sending of tasks into one arena.
 ghost use Rattle.std.specs.Prelude.{◌≡◌, ◌≢◌, ◌<◌, ◌*◌, [], Err, IfErr, IfOk, IfSome, None, OnErr, OnOk, Some, length, vec_capacity};
 ghost use Rattle.hc_records.specs.declared.limits.TheConstants.{MOST_DATAGRAMS, TASKS};
 ghost use Rattle.hc_records.specs.Lists.{lowest};
@@ -17,7 +17,7 @@ use hc_events::sending::Sending;
 use std::alloc::Global;
 
 impl Conductor {
-    /// The frames of the present proposal, as the core's `propose` gave it, are sent. It takes no memory.
+    /// Sends the frames of the present proposal, as the core's `propose` returned it. It allocates nothing.
     pub fn commit(&mut self, frames: &[Sending])
         requires { IsProposal (core_history self.old) frames.now }
         ensures entries { core_history self.new ≡ with_sent (core_history self.old) frames.now }
@@ -26,12 +26,15 @@ impl Conductor {
         self.core.commit(frames);
     }
 
-    /// Tasks are sent, 1 to 8 distinct ones: the frames are in the arena one after another, each of its own size,
-    /// and are answered in that order. After them the arena is as it was. `NoSuchTask` where a number is over 7;
-    /// `Unprogrammed` where register blocks are owed, with their number; `SerialsSpent` where too few serials are
-    /// left; `Room` with the size needed where the arena is shorter; and of several the first of these. `Memory`
-    /// where a growth was refused, and only after the first two. Then nothing is sent, nothing changed, and the
-    /// arena is as it was.
+    /// Sends 1 to 8 distinct tasks. The frames stand in the arena one after another, each of its own length, and are returned
+    /// in that order. The rest of the arena is unchanged. Fails with the first of these; then nothing is sent, nothing has
+    /// changed, and the arena is unchanged:
+    ///
+    /// - `NoSuchTask`: a number is over 7.
+    /// - `Unprogrammed`: register blocks are owed, with their number.
+    /// - `SerialsSpent`: too few serials are left.
+    /// - `Room`: the arena is too short, with the length needed in bytes.
+    /// - `Memory`: an allocation failed. Exception: the first two are returned whatever memory does.
     pub fn send(
         &mut self,
         alloc: Global,
@@ -54,9 +57,9 @@ impl Conductor {
         Ok(frames)
     }
 
-    /// Sends tasks as `send` does, and puts the frames into a list that is used again: what it held is dropped, and it is empty
-    /// where they are refused. A list with room for 128 frames, 16 of each of the eight tasks, takes no memory, and is never refused for
-    /// `Memory` (this project's profile).
+    /// Sends tasks as `send` does, and stores the frames in a list that is used again. The list is emptied first, and stays
+    /// empty if the tasks are refused. With a capacity of 128 frames, 16 for each of the eight tasks, it needs no allocation,
+    /// and the call never fails with `Memory` (this project's profile).
     pub fn send_into(
         &mut self,
         tasks: &[u8],
@@ -80,12 +83,16 @@ impl Conductor {
         Ok(())
     }
 
-    /// Sends 1 to 8 distinct ready tasks, while register blocks of other tasks may be owed: the frames are in the arena one after
-    /// another, each of its own size, and are returned in that order. After them the arena is as it was. Fails with the first of
-    /// these: `NoSuchTask` if a number is over 7; `Waits` with the first task that waits, the owed blocks that concern it and
-    /// the registers outside the line that may name it; `SerialsSpent` if too few serials are left; `Room` with the bytes
-    /// needed if the arena is shorter. Fails with `Memory` if an allocation fails, and only after the first two. After a
-    /// failure nothing is sent, nothing has changed, and the arena is as it was (this project's profile).
+    /// Sends 1 to 8 distinct ready tasks, while register blocks of other tasks may be owed (this project's profile). The frames
+    /// stand in the arena one after another, each of its own length, and are returned in that order. The rest of the arena is
+    /// unchanged. Fails with the first of these; then nothing is sent, nothing has changed, and the arena is unchanged:
+    ///
+    /// - `NoSuchTask`: a number is over 7.
+    /// - `Waits`: a task waits. The first that does, with the number of owed blocks that concern it and of registers outside
+    ///   the line that may name it.
+    /// - `SerialsSpent`: too few serials are left.
+    /// - `Room`: the arena is too short, with the length needed in bytes.
+    /// - `Memory`: an allocation failed. Exception: the first two are returned whatever memory does.
     pub fn send_ready(
         &mut self,
         alloc: Global,
@@ -108,9 +115,9 @@ impl Conductor {
         Ok(frames)
     }
 
-    /// Sends ready tasks as `send_ready` does, and puts the frames into a list that is used again: what it held is dropped, and it
-    /// is empty if the tasks are refused. A list with a capacity of 128 frames, 16 of each of the eight tasks, needs no
-    /// allocation, and the call never fails with `Memory` then (this project's profile).
+    /// Sends ready tasks as `send_ready` does, and stores the frames in a list that is used again. The list is emptied first,
+    /// and stays empty if the tasks are refused. With a capacity of 128 frames, 16 for each of the eight tasks, it needs no
+    /// allocation, and the call never fails with `Memory` (this project's profile).
     pub fn send_ready_into(
         &mut self,
         tasks: &[u8],

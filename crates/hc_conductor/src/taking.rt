@@ -1,4 +1,4 @@
-//! What tasks posted goes to the core.
+//! Posts that are taken from the rings and handed to the core.
 ghost use Rattle.std.specs.Prelude.{◌≡◌, ◌+◌, ◌<◌, ◌≤◌, All, length};
 ghost use Rattle.hc_records.specs.declared.limits.TheConstants.{TASKS};
 ghost use Rattle.hc_events.specs.Steps.{answer_to, entries_after};
@@ -11,31 +11,31 @@ use hc_core::keeping::Core;
 use hc_records::limits::TASKS;
 use hc_rings::{POSTS_WAITING, PostBuffer, PostReceiver};
 
-/// How many posts were taken of the rings, by what the core made of them.
+/// The number of posts taken from the rings, accepted and refused.
 #[derive(Clone, Copy, Debug, PartialEq, Eq)]
 pub struct Taken {
-    /// Their values are sent from now on.
+    /// The posts whose values are sent from now on.
     pub accepted: u32,
-    /// They were for an epoch that the core does not accept, and left nothing.
+    /// The posts for an epoch that the core does not accept. They changed nothing.
     pub refused: u32,
 }
 
-/// Which posts the core accepts when they are taken.
+/// The rule by which the core accepts posts when they are taken.
 #[derive(Clone, Copy)]
 pub(crate) enum PostRule {
-    /// Those that were made for the present epoch.
+    /// It accepts posts made for the present epoch.
     Present,
-    /// Those that were made since the last edit that changed their task.
+    /// It accepts posts made since the last edit that changed their task.
     Steady,
 }
 
-// Nothing was taken.
+// The count before any post.
 const NOTHING: Taken = Taken {
     accepted: 0,
     refused: 0,
 };
 
-/// The count with one more post, accepted or refused.
+/// Returns the count with one more post, accepted or refused.
 fn with_one(others: Taken, is_accepted: bool) -> Taken
     requires { others.accepted + others.refused < POSTS_WAITING }
     ensures accepted { result.accepted ≡ one_if is_accepted + others.accepted }
@@ -55,7 +55,7 @@ fn with_one(others: Taken, is_accepted: bool) -> Taken
     }
 }
 
-/// Hands the core a task's post, and answers whether the core accepted it.
+/// Hands a task's post to the core, and returns whether the core accepted it.
 fn is_accepted(core: &mut Core, task: u8, post: &PostBuffer) -> bool
     ensures core { core.new ≡ record core.old { history = entries_after core.old.history (event_of task post.now) } }
     ensures answer_given { was_accepted (answer_to core.old.history (event_of task post.now)) ≡ result }
@@ -66,7 +66,7 @@ fn is_accepted(core: &mut Core, task: u8, post: &PostBuffer) -> bool
     }
 }
 
-/// Hands the core a task's post as a steady one, and returns whether the core accepted it.
+/// Hands a task's post to the core as a steady one, and returns whether the core accepted it.
 fn is_steadily_accepted(core: &mut Core, task: u8, post: &PostBuffer) -> bool
     ensures core { core.new ≡ record core.old { history = entries_after core.old.history (steady_event_of task post.now) } }
     ensures answer_given { was_accepted (answer_to core.old.history (steady_event_of task post.now)) ≡ result }
@@ -77,7 +77,7 @@ fn is_steadily_accepted(core: &mut Core, task: u8, post: &PostBuffer) -> bool
     }
 }
 
-/// Hands the core a task's post by a rule, and returns whether the core accepted it.
+/// Hands a task's post to the core by a rule, and returns whether the core accepted it.
 fn is_accepted_by(core: &mut Core, rule: PostRule, task: u8, post: &PostBuffer) -> bool
     ensures core { core.new ≡ record core.old { history = entries_after core.old.history (event_by rule task post.now) } }
     ensures answer_given { was_accepted (answer_to core.old.history (event_by rule task post.now)) ≡ result }
@@ -88,8 +88,8 @@ fn is_accepted_by(core: &mut Core, rule: PostRule, task: u8, post: &PostBuffer) 
     }
 }
 
-/// Hands the core up to `most` posts of a task's ring by a rule, the oldest first, and counts them. The recursion is as deep as
-/// there are posts: four at most.
+/// Hands at most `most` posts of a task's ring to the core by a rule, the oldest first, and counts them. A ring has at most
+/// four posts, which bounds the recursion.
 fn take_some(core: &mut Core, rule: PostRule, task: u8, ring: &mut PostReceiver, most: u32) -> Taken
     requires { most ≤ POSTS_WAITING }
     ensures taken { TakesFrom rule task most core.old core.new ring.old ring.new result }
@@ -107,8 +107,8 @@ fn take_some(core: &mut Core, rule: PostRule, task: u8, ring: &mut PostReceiver,
     with_one(take_some(core, rule, task, ring, most - 1), accepted)
 }
 
-/// Hands the core up to `most` posts of each ring by a rule, and counts them. The first ring is the given task's, the next one the
-/// next task's. The recursion is as deep as there are rings: eight at most.
+/// Hands at most `most` posts of each ring to the core by a rule, and counts them. The first ring is the given task's, the next
+/// one the next task's. There are at most eight, which bounds the recursion.
 pub(crate) fn take_all(
     core: &mut Core,
     rule: PostRule,
@@ -142,7 +142,7 @@ impl Conductor {
     ghost use Rattle.hc_rings.specs.declared.posts.PostSender.{PostSender};
     ghost use Rattle.hc_conductor.specs.Together.{AreJoined, EachRing};
 
-    /// Takes what tasks posted, at most four posts of each, and hands each to the core by a rule.
+    /// Takes at most four posts of each task, and hands each to the core by a rule.
     fn take_by(&mut self, rule: PostRule) -> Taken
         ensures taken { TakesPostsBy rule self.old self.new result }
         ensures waiting { EachTakesWaiting (replicate TASKS POSTS_WAITING) self.old.rings self.new.rings }
@@ -153,11 +153,10 @@ impl Conductor {
         take_all(&mut self.core, rule, 0, &mut self.rings, &most)
     }
 
-    /// Takes what tasks posted, at most four posts of each, and hands each to the core as a post of its task, for its
-    /// epoch: the tasks ascending, each one's posts in order. Each post that is known to wait is among them, up to four of
-    /// a task. A post that the core refuses, since another epoch has begun, leaves nothing. Each buffer goes back to its
-    /// seat, unless no place is found for it. It waits for nobody and takes no memory; what is posted meanwhile may be left
-    /// for the next call.
+    /// Takes at most four posts of each task, and hands each to the core for its epoch: the tasks ascending, each task's posts
+    /// in order. The posts that are known to wait are among them, at most four of a task. A post for another epoch than the
+    /// present one is refused, and changes nothing. Each buffer goes back to its seat, unless no place is found for it. A post
+    /// made during this call may be left for the next one. It allocates nothing and waits for nobody.
     pub fn take_posts(&mut self) -> Taken
         ensures taken { TakesPosts self.old self.new result }
         ensures waiting { EachTakesWaiting (replicate TASKS POSTS_WAITING) self.old.rings self.new.rings }
@@ -167,11 +166,11 @@ impl Conductor {
         self.take_by(PostRule::Present)
     }
 
-    /// Takes what tasks posted, at most four posts of each, and hands each to the core as a steady post of its task, for its
-    /// epoch: the tasks ascending, each one's posts in order. Each post that is known to wait is among them, up to four of a
-    /// task. The core accepts a post if no edit since its epoch changed the task; a post that the core refuses leaves nothing.
-    /// Each buffer goes back to its seat, unless no place is found for it. It waits for nobody and takes no memory; what is
-    /// posted meanwhile may be left for the next call.
+    /// Takes at most four posts of each task, and hands each to the core as a steady post for its epoch: the tasks ascending,
+    /// each task's posts in order. The posts that are known to wait are among them, at most four of a task. The core accepts a
+    /// post if no edit since its epoch changed the task; a refused post changes nothing. Each buffer goes back to its seat,
+    /// unless no place is found for it. A post made during this call may be left for the next one. It allocates nothing and
+    /// waits for nobody.
     pub fn take_steady_posts(&mut self) -> Taken
         ensures taken { TakesSteadyPosts self.old self.new result }
         ensures waiting { EachTakesWaiting (replicate TASKS POSTS_WAITING) self.old.rings self.new.rings }

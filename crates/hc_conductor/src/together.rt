@@ -1,4 +1,4 @@
-//! Posts, where one thread holds the conductor and all its seats: what waits is known, and all of it is taken.
+//! Posts, for a thread that holds the conductor and all its seats: the posts that wait are known, and all of them are taken.
 ghost use Rattle.std.specs.Prelude.{◌≡◌, All, [], length, map};
 ghost use Rattle.hc_events.specs.Steps.{entries_after_all};
 ghost use Rattle.hc_rings.specs.Ring as ring;
@@ -13,8 +13,8 @@ use crate::taking::{PostRule, Taken, take_all};
 use hc_records::limits::TASKS;
 use hc_rings::PostReceiver;
 
-/// Brings both ends of each ring up to date with one another, and writes to `counts` how many posts wait. The recursion is as
-/// deep as there are seats: eight at most.
+/// Brings both ends of each ring up to date with one another, and writes the number of waiting posts to `counts`. There are at
+/// most eight rings, which bounds the recursion.
 fn look(rings: &mut [PostReceiver], seats: &mut [TaskSeat], counts: &mut [u32])
     requires joined { EachRing AreJoined (map sender seats.old) rings.old }
     requires each { length counts.old ≡ length seats.old }
@@ -39,11 +39,10 @@ fn look(rings: &mut [PostReceiver], seats: &mut [TaskSeat], counts: &mut [u32])
 }
 
 impl Conductor {
-    /// How many posts of each task wait to be taken, task i's at place i, for a thread that holds the conductor and all
-    /// its seats, in the order of their tasks; also where they worked in threads of their own before. Each seat then
-    /// knows of a place for every post that doesn't wait, and of every buffer that is free: so its next `post` isn't
-    /// refused for a missing place, and its next `hold`, where its ring lost no buffer, is refused just where four of its
-    /// posts wait. It waits for nobody and takes no memory.
+    /// Returns how many posts of each task wait, task i's at index i. The thread holds the conductor and all its seats, in the
+    /// order of their tasks, even if they worked in threads of their own before. Each seat then knows of a place for every post
+    /// that does not wait, and of every free buffer. Its next `post` does not fail for a missing place. Its next `hold` fails
+    /// exactly if four of its posts wait, unless its ring lost a buffer. It allocates nothing and waits for nobody.
     pub fn posts_waiting(&mut self, seats: &mut [TaskSeat]) -> [u32; TASKS as usize]
         requires { EachRing AreJoined (map sender seats.old) self.old.rings }
         ensures known { EachRing KnowAll (map sender seats.new) self.new.rings }
@@ -60,10 +59,9 @@ impl Conductor {
         counts
     }
 
-    /// Takes all that the tasks posted, for a thread that holds the conductor and all its seats, in the order of their
-    /// tasks, and hands each post to the core as a post of its task, for its epoch: the tasks ascending, each one's posts
-    /// in order. A post that the core refuses leaves nothing. Each buffer goes back to its seat. It waits for nobody and
-    /// takes no memory.
+    /// Takes all posts of the tasks, and hands each to the core for its epoch: the tasks ascending, each task's posts in order.
+    /// The thread holds the conductor and all its seats, in the order of their tasks. A refused post changes nothing. Each
+    /// buffer goes back to its seat. It allocates nothing and waits for nobody.
     pub fn take_all_posts(&mut self, seats: &mut [TaskSeat]) -> Taken
         requires { EachRing AreJoined (map sender seats.old) self.old.rings }
         ensures entries { core_history self.new ≡ entries_after_all (core_history self.old) (events_of_all 0 (posts_waiting (map sender seats.old) self.old.rings)) }

@@ -1,4 +1,4 @@
-//! What a task looks at.
+//! The view of a task.
 ghost use Rattle.std.specs.Prelude.{◌≤◌, ℕ};
 ghost use Rattle.hc_publish.specs.ChangesSince.{table_shown};
 ghost use Rattle.hc_rings.specs.declared.post_buffer.TheConstants.{LARGEST_IMAGE};
@@ -9,7 +9,7 @@ use hc_rings::PostSender;
 
 mod reading;
 
-/// A task's seat that looks at the published copy. It is not `Drop`: end it by `leave`.
+/// A task's seat while it views the published copy. It is not `Drop`: end it by `leave`.
 pub struct TaskView {
     pub(crate) view: View,
     pub(crate) posts: PostSender,

@@ -37,7 +37,7 @@ use Rattle.hc_sendings.specs.declared.writes.AwaitedBlock.{AwaitedBlock}
 use Rattle.hc_sendings.specs.Judging.{Due, block_due, blocks_with, due_of, found_frame, found_write, frame_due, write_due, written_head}
 use Rattle.hc_sendings.specs.History.{KeepsAwaited, dues_of}
 use Rattle.hc_sendings.proofs.lemmas.Dues.{heads-back}
-use Rattle.hc_sendings.specs.Waiting.{AwaitedFrame, AwaitedWrite, AwaitedDatagram, Waiting, ended}
+use Rattle.hc_sendings.specs.Waiting.{all_writes, AwaitedDatagram, AwaitedFrame, AwaitedWrite, ended, Waiting}
 use Rattle.hc_images.specs.Image.{DatagramImage, data_of}
 use Rattle.hc_owed.specs.declared.area.JudgedArea.{JudgedArea}
 use Rattle.hc_owed.specs.Readiness.{readiness_of}
@@ -183,16 +183,17 @@ among_writes P serial (one ∷ writes) write all e =
 
 pub placed-with : (history : History) (unchanged : Waiting) (arrival : Arrival) → Waits history unchanged → (with : IsUnchangedWith history unchanged arrival) → All (IsAwaitedAt (state_of history)) with.write.blocks
 placed-with history unchanged arrival waits with =
-    among_writes (λ write. All (IsAwaitedAt (state_of history)) write.blocks) arrival.serial unchanged.writes with.write waits.placed with.found
+    among_writes (λ write. All (IsAwaitedAt (state_of history)) write.blocks) arrival.serial (all_writes unchanged) with.write waits.placed with.found
 
 pub blocks-with : (history : History) (unchanged : Waiting) (arrival : Arrival) (with : IsUnchangedWith history unchanged arrival) → blocks_with arrival.serial unchanged ≡ with.write.blocks
 blocks-with history unchanged arrival with = ap (λ found. option_map_or (λ (write : AwaitedWrite). write.blocks) found []) with.found
 
 -- so they can be confirmed
-abbrev pub can-confirm : (unchanged : CoreParts) (history taken : History) (arrival : Arrival) (shown : List AwaitedBlock) (with : IsUnchangedWith history unchanged.awaited arrival) → shown ≡ with.write.blocks → Agree unchanged history taken → CanConfirm unchanged.owed shown
+abbrev pub can-confirm : (unchanged : CoreParts) (history taken : History) (arrival : Arrival) (shown : List AwaitedBlock) (with : IsUnchangedWith history unchanged.awaited arrival) → shown ≡ with.write.blocks → Agree unchanged history taken → CanConfirm unchanged.owed unchanged.plan shown
 can-confirm unchanged history taken arrival shown with same agree = record {
   known = known_bytes history;
   state = state_of history;
+  planned = agree.state;
   project = agree.project;
   right = agree.known;
   placed = subst (All (IsAwaitedAt (state_of history))) (sym same) (placed-with history unchanged.awaited arrival agree.waits with);

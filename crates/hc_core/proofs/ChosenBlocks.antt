@@ -1,5 +1,5 @@
 -- Which owed blocks a frame carries, and what is kept once they are sent and once they are answered.
-use Rattle.std.proofs.Common.{◌≡◌, ℕ, zero, suc, ◌+◌, ◌<◌, ◌≤◌, true, false, cond, not, List, [], ◌∷◌, ◌++◌, length, map, take, refl, sym, ap, ◌∙◌, subst, arith, append_assoc, Option, Some, None, rules}
+use Rattle.std.proofs.Common.{◌≡◌, ℕ, zero, suc, ◌+◌, ◌<◌, ◌≤◌, Bool, true, false, cond, not, List, [], ◌∷◌, ◌++◌, filter, length, map, take, refl, sym, ap, ◌∙◌, subst, arith, append_assoc, Option, Some, None, rules}
 use Rattle.std.specs.Prelude.{All, Contains, option_map, option_to_list, slice_get}
 use Rattle.std.specs.Option.{option_map_or}
 use Rattle.std.specs.Str.{bytes_eq}
@@ -30,8 +30,9 @@ use Rattle.hc_owed.specs.RegisterState.{RegisterState, Knowledge, register_state
 use Rattle.hc_owed.specs.Laws.{IsRightAt, known_with, owed_from, same_name}
 use Rattle.hc_sendings.specs.declared.write_frames.PlacedBlock.{PlacedBlock}
 use Rattle.hc_sendings.specs.declared.writes.AwaitedBlock.{AwaitedBlock}
+use Rattle.hc_sendings.specs.Waiting.{Waiting, is_newest_awaited}
 use Rattle.hc_sendings.specs.WriteFrames.{WriteFrame, block_of, block_joined}
-use Rattle.hc_core.specs.Chosen.{CanConfirm, CanMark, IsAwaitedAt, IsChosenFrom, IsNext, IsLineBlock, block_bytes_in, write_is_done, known_if}
+use Rattle.hc_core.specs.Chosen.{CanConfirm, CanMark, IsAwaitedAt, IsChosenFrom, IsNext, IsLineBlock, Source, block_bytes_in, further_from, write_is_done, known_if}
 
 -- which blocks a frame carries
 
@@ -44,37 +45,37 @@ no_more : (n : ℕ) → n ≡ n + 0
 no_more n = omega arith
 
 -- none joins where none may, none is left, or the next one has no room
-pub chosen-none : (known : Knowledge) (state : State) (place most : ℕ) (frame : WriteFrame) → take most (blocks_beside frame.bytes (owed_from known state place)) ≡ [] → IsChosenFrom known state place most frame frame
-chosen-none known state place most frame none = record {
+pub chosen-none : (source : Source) (state : State) (place most : ℕ) (frame : WriteFrame) → take most (blocks_beside frame.bytes (source place)) ≡ [] → IsChosenFrom source state place most frame frame
+chosen-none source state place most frame none = record {
   blocks = sym (append-nil (map block_of frame.blocks)) ∙ ap (λ more. map block_of frame.blocks ++ more) (sym none);
   bytes = no_more frame.bytes ∙ ap (λ more. frame.bytes + blocks_bytes more) (sym none);
   placed = λ all. all;
 }
 
-pub chosen-over : (known : Knowledge) (state : State) (place most : ℕ) (frame : WriteFrame) → owed_from known state place ≡ [] → IsChosenFrom known state place most frame frame
-chosen-over known state place most frame none =
-    chosen-none known state place most frame (take_none most (blocks_beside frame.bytes (owed_from known state place)) (ap (blocks_beside frame.bytes) none))
+pub chosen-over : (source : Source) (state : State) (place most : ℕ) (frame : WriteFrame) → source place ≡ [] → IsChosenFrom source state place most frame frame
+chosen-over source state place most frame none =
+    chosen-none source state place most frame (take_none most (blocks_beside frame.bytes (source place)) (ap (blocks_beside frame.bytes) none))
 
-pub chosen-full : (known : Knowledge) (state : State) (place most : ℕ) (frame : WriteFrame) (next : PlacedBlock) → IsNext known state place next → has_room frame.bytes (length next.block.block.bytes) ≡ false
-    → IsChosenFrom known state place most frame frame
-chosen-full known state place most frame next is full =
-    chosen-none known state place most frame
-    (take_none most (blocks_beside frame.bytes (owed_from known state place))
-    (ap (blocks_beside frame.bytes) is.next ∙ ap (λ b. cond b (next.block ∷ blocks_beside (frame.bytes + block_bytes next.block) (owed_from known state (next.place + 1))) []) full))
+pub chosen-full : (source : Source) (state : State) (place most : ℕ) (frame : WriteFrame) (next : PlacedBlock) → IsNext source state place next → has_room frame.bytes (length next.block.block.bytes) ≡ false
+    → IsChosenFrom source state place most frame frame
+chosen-full source state place most frame next is full =
+    chosen-none source state place most frame
+    (take_none most (blocks_beside frame.bytes (source place))
+    (ap (blocks_beside frame.bytes) is.next ∙ ap (λ b. cond b (next.block ∷ blocks_beside (frame.bytes + block_bytes next.block) (source (next.place + 1))) []) full))
 
-pub chosen-zero : (known : Knowledge) (state : State) (place most : ℕ) (frame : WriteFrame) → most ≡ 0 → IsChosenFrom known state place most frame frame
-chosen-zero known state place most frame none =
-    chosen-none known state place most frame (ap (λ n. take n (blocks_beside frame.bytes (owed_from known state place))) none)
+pub chosen-zero : (source : Source) (state : State) (place most : ℕ) (frame : WriteFrame) → most ≡ 0 → IsChosenFrom source state place most frame frame
+chosen-zero source state place most frame none =
+    chosen-none source state place most frame (ap (λ n. take n (blocks_beside frame.bytes (source place))) none)
 
 -- a block joins, and then those after it
-pub chosen-more : (known : Knowledge) (state : State) (place most left : ℕ) (old new : WriteFrame) (next : PlacedBlock) → IsNext known state place next → has_room old.bytes (length next.block.block.bytes) ≡ true
-    → most ≡ suc left → IsChosenFrom known state (next.place + 1) left (block_joined next old) new → IsChosenFrom known state place most old new
-chosen-more known state place most left old new next is room more step =
-    let later = take left (blocks_beside (old.bytes + block_bytes next.block) (owed_from known state (next.place + 1))) in
-    let beside : blocks_beside old.bytes (owed_from known state place) ≡ next.block ∷ blocks_beside (old.bytes + block_bytes next.block) (owed_from known state (next.place + 1)) =
-    ap (blocks_beside old.bytes) is.next ∙ ap (λ b. cond b (next.block ∷ blocks_beside (old.bytes + block_bytes next.block) (owed_from known state (next.place + 1))) []) room in
-    let all : take most (blocks_beside old.bytes (owed_from known state place)) ≡ next.block ∷ later =
-    ap (λ n. take n (blocks_beside old.bytes (owed_from known state place))) more ∙ ap (take (suc left)) beside in
+pub chosen-more : (source : Source) (state : State) (place most left : ℕ) (old new : WriteFrame) (next : PlacedBlock) → IsNext source state place next → has_room old.bytes (length next.block.block.bytes) ≡ true
+    → most ≡ suc left → IsChosenFrom source state (next.place + 1) left (block_joined next old) new → IsChosenFrom source state place most old new
+chosen-more source state place most left old new next is room more step =
+    let later = take left (blocks_beside (old.bytes + block_bytes next.block) (source (next.place + 1))) in
+    let beside : blocks_beside old.bytes (source place) ≡ next.block ∷ blocks_beside (old.bytes + block_bytes next.block) (source (next.place + 1)) =
+    ap (blocks_beside old.bytes) is.next ∙ ap (λ b. cond b (next.block ∷ blocks_beside (old.bytes + block_bytes next.block) (source (next.place + 1))) []) room in
+    let all : take most (blocks_beside old.bytes (source place)) ≡ next.block ∷ later =
+    ap (λ n. take n (blocks_beside old.bytes (source place))) more ∙ ap (take (suc left)) beside in
     let sum = sum_by-cons block_bytes next.block later in
     record {
       blocks = step.blocks ∙ ap (λ front. front ++ later) (map-append block_of old.blocks (next ∷ [])) ∙ append_assoc (map block_of old.blocks) (next.block ∷ []) later
@@ -82,6 +83,28 @@ chosen-more known state place most left old new next is room more step =
       bytes = subst (λ more. new.bytes ≡ old.bytes + blocks_bytes more) (sym all) (omega (arith, step.bytes, sum));
       placed = λ at. step.placed (All-append (IsLineBlock state) old.blocks (next ∷ []) at (All-cons (IsLineBlock state) next [] is.at (All-nil (IsLineBlock state))));
     }
+
+-- a lacking block whose newest write is awaited is passed over, another one is the next
+
+pub further-skips : (known : Knowledge) (state : State) (waiting : Waiting) (place : ℕ) (next : PlacedBlock) → IsNext (owed_from known state) state place next → is_newest_awaited next.block.station next.block.number waiting ≡ true
+    → further_from known state waiting place ≡ further_from known state waiting (next.place + 1)
+further-skips known state waiting place next is waits =
+    let passes : LineBlock → Bool = λ block. not (is_newest_awaited block.station block.number waiting) in
+    ap (filter passes) is.next ∙ ap (λ b. cond (not b) (next.block ∷ further_from known state waiting (next.place + 1)) (further_from known state waiting (next.place + 1))) waits
+
+pub further-next : (known : Knowledge) (state : State) (waiting : Waiting) (first place : ℕ) (next : PlacedBlock) → first ≤ place → further_from known state waiting first ≡ further_from known state waiting place
+    → IsNext (owed_from known state) state place next → is_newest_awaited next.block.station next.block.number waiting ≡ false → IsNext (further_from known state waiting) state first next
+further-next known state waiting first place next above same is waits =
+    let passes : LineBlock → Bool = λ block. not (is_newest_awaited block.station block.number waiting) in
+    let from = is.from in
+    record {
+      from = omega (arith, above, from);
+      at = is.at;
+      next = same ∙ ap (filter passes) is.next ∙ ap (λ b. cond (not b) (next.block ∷ further_from known state waiting (next.place + 1)) (further_from known state waiting (next.place + 1))) waits;
+    }
+
+pub further-over : (known : Knowledge) (state : State) (waiting : Waiting) (first place : ℕ) → further_from known state waiting first ≡ further_from known state waiting place → owed_from known state place ≡ [] → further_from known state waiting first ≡ []
+further-over known state waiting first place same over = same ∙ ap (filter (λ (block : LineBlock). not (is_newest_awaited block.station block.number waiting))) over
 
 -- blocks that are sent
 
@@ -145,51 +168,53 @@ configured-at state block at project =
     ap (λ n. block_at (line state) n block.number) station ∙ ap (block_at (line state) at.found.station) number
     ∙ configured-block (line state) (line state) at.found (project-distinct state.groups project) (placed-inside state block.place at.found project at.at)
 
-pub first-awaited : (register_state : RegisterState) (block : AwaitedBlock) (rest : List AwaitedBlock) (can : CanConfirm register_state (block ∷ rest)) → IsAwaitedAt can.state block
-first-awaited register_state block rest can = All-head (IsAwaitedAt can.state) block rest can.placed
+pub first-awaited : (register_state : RegisterState) (plan : State) (block : AwaitedBlock) (rest : List AwaitedBlock) (can : CanConfirm register_state plan (block ∷ rest)) → IsAwaitedAt can.state block
+first-awaited register_state plan block rest can = All-head (IsAwaitedAt can.state) block rest can.placed
 
-abbrev pub confirm-first : (register_state : RegisterState) (block : AwaitedBlock) (rest : List AwaitedBlock) → CanConfirm register_state (block ∷ rest) → CanConfirm register_state (block ∷ [])
-confirm-first register_state block rest can = record {
+abbrev pub confirm-first : (register_state : RegisterState) (plan : State) (block : AwaitedBlock) (rest : List AwaitedBlock) → CanConfirm register_state plan (block ∷ rest) → CanConfirm register_state plan (block ∷ [])
+confirm-first register_state plan block rest can = record {
   known = can.known;
   state = can.state;
+  planned = can.planned;
   project = can.project;
   right = can.right;
-  placed = All-cons (IsAwaitedAt can.state) block [] (first-awaited register_state block rest can) (All-nil (IsAwaitedAt can.state));
+  placed = All-cons (IsAwaitedAt can.state) block [] (first-awaited register_state plan block rest can) (All-nil (IsAwaitedAt can.state));
 }
 
-abbrev pub confirm-rest : (register_state new : RegisterState) (block : AwaitedBlock) (rest : List AwaitedBlock) (outcome : Outcome) (can : CanConfirm register_state (block ∷ rest))
-    → new ≡ register_state_of (known_if can.state block outcome can.known) can.state → CanConfirm new rest
-confirm-rest register_state new block rest outcome can confirmed = record {
+abbrev pub confirm-rest : (register_state new : RegisterState) (plan : State) (block : AwaitedBlock) (rest : List AwaitedBlock) (outcome : Outcome) (can : CanConfirm register_state plan (block ∷ rest))
+    → new ≡ register_state_of (known_if can.state block outcome can.known) can.state → CanConfirm new plan rest
+confirm-rest register_state new plan block rest outcome can confirmed = record {
   known = known_if can.state block outcome can.known;
   state = can.state;
+  planned = can.planned;
   project = can.project;
   right = confirmed;
   placed = All-tail (IsAwaitedAt can.state) block rest can.placed;
 }
 
 -- what is known once a block's write is done
-pub confirmed-known : (register_state new : RegisterState) (block : AwaitedBlock) (outcome : Outcome) (can : CanConfirm register_state (block ∷ [])) → write_is_done outcome ≡ true
-    → ((known : Knowledge) (state : State) (found : LineBlock) → IsRightAt register_state block.place known state found → new ≡ register_state_of (known_with (found_name found) (Some found.block.bytes) known) state)
+pub confirmed-known : (register_state new : RegisterState) (plan : State) (block : AwaitedBlock) (outcome : Outcome) (can : CanConfirm register_state plan (block ∷ [])) → write_is_done outcome ≡ true
+    → ((known : Knowledge) (state : State) (found : LineBlock) → plan ≡ state → IsRightAt register_state block.place known state found → new ≡ register_state_of (known_with (found_name found) (Some found.block.bytes) known) state)
     → new ≡ register_state_of (known_if can.state block outcome can.known) can.state
-confirmed-known register_state new block outcome can done confirmed =
+confirmed-known register_state new plan block outcome can done confirmed =
     let state = can.state in
-    let at = first-awaited register_state block [] can in
+    let at = first-awaited register_state plan block [] can in
     let station : at.found.station ≡ block.station = sym (ap (λ (head : Head). station_in head.item) at.head) in
     let number : at.found.number ≡ block.number = sym (ap (λ (head : Head). number_in head.item) at.head) in
-    confirmed can.known state at.found (record { right = can.right; project = can.project; is_placed = at.at })
+    confirmed can.known state at.found can.planned (record { right = can.right; project = can.project; is_placed = at.at })
     ∙ ap (λ n. register_state_of (known_with (n, at.found.number) (Some at.found.block.bytes) can.known) state) station
     ∙ ap (λ n. register_state_of (known_with (block.station, n) (Some at.found.block.bytes) can.known) state) number
     ∙ ap (λ (found : Option RegisterBlock). register_state_of (known_with (block.station, block.number) (option_map (λ (one : RegisterBlock). one.bytes) found) can.known) state) (sym (configured-at state block at can.project))
     ∙ sym (ap (λ b. register_state_of (cond b (known_with (block.station, block.number) (block_bytes_in state block) can.known) can.known) state) done)
 
-pub undone : (register_state : RegisterState) (block : AwaitedBlock) (outcome : Outcome) (can : CanConfirm register_state (block ∷ [])) → write_is_done outcome ≡ false
+pub undone : (register_state : RegisterState) (plan : State) (block : AwaitedBlock) (outcome : Outcome) (can : CanConfirm register_state plan (block ∷ [])) → write_is_done outcome ≡ false
     → register_state ≡ register_state_of (known_if can.state block outcome can.known) can.state
-undone register_state block outcome can other =
+undone register_state plan block outcome can other =
     can.right ∙ sym (ap (λ b. register_state_of (cond b (known_with (block.station, block.number) (block_bytes_in can.state block) can.known) can.known) can.state) other)
 
-pub awaited-within : (register_state : RegisterState) (block : AwaitedBlock) → CanConfirm register_state (block ∷ []) → block.place < length register_state.known
-awaited-within register_state block can =
-    let at = first-awaited register_state block [] can in
+pub awaited-within : (register_state : RegisterState) (plan : State) (block : AwaitedBlock) → CanConfirm register_state plan (block ∷ []) → block.place < length register_state.known
+awaited-within register_state plan block can =
+    let at = first-awaited register_state plan block [] can in
     unchanged-within register_state can.known can.state block.place at.found can.right at.at
 
 -- a place of a project's line is low
@@ -215,10 +240,11 @@ can-cut register_state blocks first rest cut can = record {
   lacking = subst (All (λ (one : PlacedBlock). lacks can.known one.block ≡ true)) cut can.lacking;
 }
 
-abbrev pub confirm-cut : (register_state : RegisterState) (blocks : List AwaitedBlock) (first : AwaitedBlock) (rest : List AwaitedBlock) → blocks ≡ first ∷ rest → CanConfirm register_state blocks → CanConfirm register_state (first ∷ rest)
-confirm-cut register_state blocks first rest cut can = record {
+abbrev pub confirm-cut : (register_state : RegisterState) (plan : State) (blocks : List AwaitedBlock) (first : AwaitedBlock) (rest : List AwaitedBlock) → blocks ≡ first ∷ rest → CanConfirm register_state plan blocks → CanConfirm register_state plan (first ∷ rest)
+confirm-cut register_state plan blocks first rest cut can = record {
   known = can.known;
   state = can.state;
+  planned = can.planned;
   project = can.project;
   right = can.right;
   placed = subst (All (IsAwaitedAt can.state)) cut can.placed;

@@ -1,6 +1,6 @@
 -- What is kept stays right after an accepted edit.
-use Rattle.std.proofs.Common.{◌≡◌, ℕ, ◌+◌, ◌*◌, ◌<◌, Bool, cond, ap₂, List, [], ◌∷◌, ◌++◌, length, refl, sym, ap, ◌∙◌, subst, append_assoc, length-append, None, Option, rules}
-use Rattle.std.specs.Prelude.{Contains, Err, IfSome, Ok, Result}
+use Rattle.std.proofs.Common.{◌≡◌, ℕ, ◌+◌, ◌*◌, ◌<◌, Bool, cond, ap₂, List, [], ◌∷◌, ◌++◌, length, refl, sym, ap, ◌∙◌, subst, append_assoc, length-append, None, Option, Vec, Global, rules}
+use Rattle.std.specs.Prelude.{Contains, Err, IfSome, Ok, Result, vec_capacity}
 use Rattle.std.specs.Result.{result_unwrap_or}
 use Rattle.std.proofs.lemmas.List.{length-map, map-append}
 use Rattle.hc_records.specs.declared.edit.Edit.{Edit}
@@ -62,6 +62,7 @@ use Rattle.hc_owed.specs.TaskSets.{has_task}
 use Rattle.hc_records.specs.declared.limits.TheConstants.{TASKS}
 use Rattle.hc_core.specs.Update.{ShowUpdates}
 use Rattle.hc_core.specs.declared.declaring.SlaveRoom.{SlaveRoom}
+use Rattle.hc_core.specs.declared.prepared.PlannedEdit.{PlannedEdit}
 use Rattle.hc_core.specs.Prepared.{CanFollow, CoreEdit, CanBeCarriedOut, HasSlaveRoom}
 use Rattle.hc_core.specs.State.{CoreState}
 use Rattle.hc_core.proofs.Followed.{areas-many, new-slaves, room-answer_given}
@@ -161,21 +162,21 @@ agree-edited unchanged history taken new report changed inputs ages epochs outpu
       shows = updates-edited taken history edit unchanged.changes new report accepted say agree.shows;
     }
 
--- an edit that is ready for a core, as what the core keeps
+-- an edit that is planned for a core, as what the core keeps
 
-pub core_edit-here : (made own now : CoreState) (core_edit : CoreEdit) (edit : PreparedEdit) (moves : Moves) (slaves : Option SlaveRoom) (room : List Change) (capacity : ℕ) → CanBeCarriedOut made edit moves slaves room capacity
-    → (let seen : CoreEdit = record { core = made; edit = edit } in seen) ≡ core_edit → core_edit.core ≡ now → own ≡ now → CanBeCarriedOut own edit moves slaves room capacity
-core_edit-here made own now core_edit edit moves slaves room capacity is view asked sees = search rules
+pub core_edit-here : (made own now : CoreState) (core_edit : CoreEdit) (planned : PlannedEdit) → CanBeCarriedOut made planned
+    → (let seen : CoreEdit = record { core = made; edit = planned.edit } in seen) ≡ core_edit → core_edit.core ≡ now → own ≡ now → CanBeCarriedOut own planned
+core_edit-here made own now core_edit planned is view asked sees = search rules
 
-pub still-here : (own now : CoreState) (edit : PreparedEdit) (moves : Moves) (slaves : Option SlaveRoom) (room : List Change) (capacity : ℕ) → own ≡ now → CanBeCarriedOut now edit moves slaves room capacity
-    → CanBeCarriedOut own edit moves slaves room capacity
-still-here own now edit moves slaves room capacity same = subst (λ (core : CoreState). CanBeCarriedOut core edit moves slaves room capacity) (sym same)
+pub still-here : (own now : CoreState) (planned : PlannedEdit) → own ≡ now → CanBeCarriedOut now planned → CanBeCarriedOut own planned
+still-here own now planned same = subst (λ (core : CoreState). CanBeCarriedOut core planned) (sym same)
 
 -- an edit of the core's line, with the memory that was taken for it
-pub with-memory : (core : CoreState) (edit : PreparedEdit) (asked : Edit) (table : Table) (swap : Swap) (moves : Moves) (count : ℕ) (slaves : Option SlaveRoom) (room : List Change) (capacity : ℕ) → edit.old ≡ state_of core.history
+pub with-memory : (core : CoreState) (edit : PreparedEdit) (asked : Edit) (table : Table) (swap : Swap) (moves : Moves) (count : ℕ) (slaves : Option SlaveRoom) (room : Vec Change Global) → edit.old ≡ state_of core.history
     → IsPrepared edit → edit.report.swap.edit ≡ asked → table ≡ table_of (line_of core.history) → swap ≡ edit.report.swap → moves ≡ record { before = table; change = swap.change } → count ≡ length (stations edit.old)
-    → HasSlaveRoom count asked slaves → room ≡ [] → length (updates_of core.history) < length (updates_of core.taken) + capacity → CanBeCarriedOut core edit moves slaves room capacity
-with-memory core edit asked table swap moves count slaves room capacity made prepared same placed shown moved known has empty fits = record {
+    → HasSlaveRoom count asked slaves → room.items ≡ [] → length (updates_of core.history) < length (updates_of core.taken) + vec_capacity room
+    → CanBeCarriedOut core (record { edit = edit; moves = moves; slaves = slaves; room = room })
+with-memory core edit asked table swap moves count slaves room made prepared same placed shown moved known has empty fits = record {
   made = made;
   prepared = prepared;
   table = ap (λ (m : Moves). m.before) moved ∙ placed;
@@ -185,8 +186,8 @@ with-memory core edit asked table swap moves count slaves room capacity made pre
   fits = fits;
 }
 
-pub table-leads : (core : CoreState) (edit : PreparedEdit) (moves : Moves) (slaves : Option SlaveRoom) (room : List Change) (capacity : ℕ) → CanBeCarriedOut core edit moves slaves room capacity → IsPrepared edit → moved_table moves ≡ table_of (line edit.new)
-table-leads core edit moves slaves room capacity core_edit prepared = search rules
+pub table-leads : (core : CoreState) (planned : PlannedEdit) → CanBeCarriedOut core planned → moved_table planned.moves ≡ table_of (line planned.edit.new)
+table-leads core planned can = let prepared = can.prepared in search rules
 
 pub new-project : (edit : PreparedEdit) → IsPrepared edit → lowest_fault (groups_of edit.new.groups) ≡ None
 new-project edit prepared = accepted-project edit.old edit.new edit.report.swap.edit prepared.project prepared.accepted
@@ -206,25 +207,25 @@ declared-empty history edit made prepared accepted group named slave has number 
     undeclared-empty history slave.station number accepted
     (ap (λ (state : State). is_declared_station state slave.station) (sym made) ∙ new-slaves edit.old edit.new edit.report.swap.edit group slave prepared.accepted named has)
 
-abbrev pub can-follow : (unchanged : CoreParts) (history taken : History) (edit : PreparedEdit) (moves : Moves) (slaves : Option SlaveRoom) (room : List Change) (capacity : ℕ)
-    → CanBeCarriedOut (record { history = history; taken = taken }) edit moves slaves room capacity → Agree unchanged history taken → CanFollow unchanged.owed unchanged.readiness edit slaves
-can-follow unchanged history taken edit moves slaves room capacity core_edit agree = record {
+abbrev pub can-follow : (unchanged : CoreParts) (history taken : History) (planned : PlannedEdit) → CanBeCarriedOut (record { history = history; taken = taken }) planned → Agree unchanged history taken
+    → CanFollow unchanged.owed unchanged.readiness planned.edit planned.slaves
+can-follow unchanged history taken planned can agree = record {
   known = known_bytes history;
   held = may_hold history;
   unplugged = is_unplugged history;
-  right = agree.known ∙ ap (register_state_of (known_bytes history)) (sym core_edit.made);
-  areas = subst (λ (state : State). IsReadinessFor (known_bytes history) (may_hold history) (is_unplugged history) state unchanged.readiness) (sym core_edit.made) (kept-right unchanged history taken agree);
-  empty = declared-empty history edit core_edit.made core_edit.prepared agree.accepted;
-  prepared = core_edit.prepared;
-  slaves = core_edit.slaves;
+  right = agree.known ∙ ap (register_state_of (known_bytes history)) (sym can.made);
+  areas = subst (λ (state : State). IsReadinessFor (known_bytes history) (may_hold history) (is_unplugged history) state unchanged.readiness) (sym can.made) (kept-right unchanged history taken agree);
+  empty = declared-empty history planned.edit can.made can.prepared agree.accepted;
+  prepared = can.prepared;
+  slaves = can.slaves;
 }
 
-pub agree-carried : (unchanged : CoreParts) (history taken : History) (edit : PreparedEdit) (moves : Moves) (slaves : Option SlaveRoom) (room : List Change) (capacity : ℕ) (changed : TaskSet) (inputs : DatagramImage) (ages : Ages) (epochs : List ℕ) (outputs : Packed) (owed : RegisterState) (readiness : List JudgedArea)
-    → CanBeCarriedOut (record { history = history; taken = taken }) edit moves slaves room capacity → IsPrepared edit → HasChangedTasks edit changed → EmptiesTasks changed unchanged.inputs inputs → UndatesTasks changed unchanged.ages ages → RaisesTasks changed edit.report.epoch unchanged.epochs epochs → owed ≡ register_state_of (known_over edit.old (known_bytes history)) edit.new
-    → readiness ≡ readiness_of (known_over edit.old (known_bytes history)) (held_over edit.old edit.new (may_hold history)) (unplugged_over edit.new (is_unplugged history)) edit.new
-    → ((value : ℕ → ℕ → ℕ) → HoldsOutputValues moves.before value unchanged.outputs → HoldsOutputValues (moved_table moves) (unchanged_over moves.before value) outputs) → Agree unchanged history taken
+pub agree-carried : (unchanged : CoreParts) (history taken : History) (planned : PlannedEdit) (changed : TaskSet) (inputs : DatagramImage) (ages : Ages) (epochs : List ℕ) (outputs : Packed) (owed : RegisterState) (readiness : List JudgedArea)
+    → CanBeCarriedOut (record { history = history; taken = taken }) planned → HasChangedTasks planned.edit changed → EmptiesTasks changed unchanged.inputs inputs → UndatesTasks changed unchanged.ages ages → RaisesTasks changed planned.edit.report.epoch unchanged.epochs epochs → owed ≡ register_state_of (known_over planned.edit.old (known_bytes history)) planned.edit.new
+    → readiness ≡ readiness_of (known_over planned.edit.old (known_bytes history)) (held_over planned.edit.old planned.edit.new (may_hold history)) (unplugged_over planned.edit.new (is_unplugged history)) planned.edit.new
+    → ((value : ℕ → ℕ → ℕ) → HoldsOutputValues planned.moves.before value unchanged.outputs → HoldsOutputValues (moved_table planned.moves) (unchanged_over planned.moves.before value) outputs) → Agree unchanged history taken
     → Agree (record {
-      plan = edit.new;
+      plan = planned.edit.new;
       serial = unchanged.serial;
       awaited = nothing;
       inputs = inputs;
@@ -233,20 +234,23 @@ pub agree-carried : (unchanged : CoreParts) (history taken : History) (edit : Pr
       outputs = outputs;
       owed = owed;
       readiness = readiness;
-      changes = unchanged.changes ++ change.Swapped edit.report.swap ∷ [];
-    }) (Edited edit.report.swap.edit ∷ history) taken
-agree-carried unchanged history taken edit moves slaves room capacity changed inputs ages epochs outputs owed readiness core_edit prepared has slots_so undated raised known ready moves_so agree =
+      changes = unchanged.changes ++ change.Swapped planned.edit.report.swap ∷ [];
+    }) (Edited planned.edit.report.swap.edit ∷ history) taken
+agree-carried unchanged history taken planned changed inputs ages epochs outputs owed readiness can has slots_so undated raised known ready moves_so agree =
+    let edit = planned.edit in
+    let moves = planned.moves in
+    let prepared = can.prepared in
     let asked = edit.report.swap.edit in
-    let accepted : edited (state_of history) asked ≡ Ok edit.new = subst (λ (state : State). edited state asked ≡ Ok edit.new) core_edit.made prepared.accepted in
-    let answer_given : ReportsEdit (state_of history) asked edit.new edit.report = subst (λ (state : State). ReportsEdit state asked edit.new edit.report) core_edit.made prepared.answer_given in
-    let before : HoldsOutputValues moves.before (value_bit history) unchanged.outputs = subst (λ (table : Table). HoldsOutputValues table (value_bit history) unchanged.outputs) (sym core_edit.table) agree.values in
+    let accepted : edited (state_of history) asked ≡ Ok edit.new = subst (λ (state : State). edited state asked ≡ Ok edit.new) can.made prepared.accepted in
+    let answer_given : ReportsEdit (state_of history) asked edit.new edit.report = subst (λ (state : State). ReportsEdit state asked edit.new edit.report) can.made prepared.answer_given in
+    let before : HoldsOutputValues moves.before (value_bit history) unchanged.outputs = subst (λ (table : Table). HoldsOutputValues table (value_bit history) unchanged.outputs) (sym can.table) agree.values in
     let carried : HoldsOutputValues (table_of (line edit.new)) (unchanged_over (table_of (line_of history)) (value_bit history)) outputs =
-    subst (λ (table : Table). HoldsOutputValues (table_of (line edit.new)) (unchanged_over table (value_bit history)) outputs) core_edit.table
-    (subst (λ (table : Table). HoldsOutputValues table (unchanged_over moves.before (value_bit history)) outputs) (table-leads (record { history = history; taken = taken }) edit moves slaves room capacity core_edit prepared) (moves_so (value_bit history) before)) in
+    subst (λ (table : Table). HoldsOutputValues (table_of (line edit.new)) (unchanged_over table (value_bit history)) outputs) can.table
+    (subst (λ (table : Table). HoldsOutputValues table (unchanged_over moves.before (value_bit history)) outputs) (table-leads (record { history = history; taken = taken }) planned can) (moves_so (value_bit history) before)) in
     agree-edited unchanged history taken edit.new edit.report changed inputs ages epochs outputs owed readiness accepted answer_given prepared.crowds.1
-    (λ task low. has task low ∙ ap (λ (state : State). changes_task state edit.new task) core_edit.made) slots_so undated raised
-    (known ∙ ap (λ (state : State). register_state_of (known_over state (known_bytes history)) edit.new) core_edit.made)
-    (ready ∙ ap (λ (state : State). readiness_of (known_over state (known_bytes history)) (held_over state edit.new (may_hold history)) (unplugged_over edit.new (is_unplugged history)) edit.new) core_edit.made) carried agree
+    (λ task low. has task low ∙ ap (λ (state : State). changes_task state edit.new task) can.made) slots_so undated raised
+    (known ∙ ap (λ (state : State). register_state_of (known_over state (known_bytes history)) edit.new) can.made)
+    (ready ∙ ap (λ (state : State). readiness_of (known_over state (known_bytes history)) (held_over state edit.new (may_hold history)) (unplugged_over edit.new (is_unplugged history)) edit.new) can.made) carried agree
 
 -- room that was taken for the changes of a core suffices for them and one more
 

@@ -12,7 +12,7 @@ use Rattle.hc_events.specs.Calls.{MayAnswer}
 use Rattle.hc_events.specs.Entries.{History, Edited}
 use Rattle.hc_events.specs.Points.{state_of}
 use Rattle.hc_events.specs.Stale.{without_stale}
-use Rattle.hc_events.specs.Steps.{Step, Edits, Posts, PostsSteady, SendsTasks, SendsWrite, Arrives, Reads, Forgets, answer_to, answers_to, edit_refused, entries_after, entries_after_all, unless_fault, judged_answer, arrival_answer, edit_answer, unless, with_arrival, SendsWrites, SendsReady, Clears, Unplugs}
+use Rattle.hc_events.specs.Steps.{Step, Edits, Posts, PostsSteady, SendsTasks, SendsWrite, Arrives, Reads, Forgets, answer_to, answers_to, edit_refused, entries_after, entries_after_all, unless_fault, judged_answer, arrival_answer, edit_answer, unless, with_arrival, SendsWrites, SendsFurther, SendsReady, Clears, Unplugs}
 use Rattle.hc_events.proofs.lemmas.SameAfter.{SameWithout, same-after, same-answer, same-says, same-stale}
 use Rattle.hc_core.specs.LastData.{GoesWithoutThem, answers_left, events_left, leaves_nothing}
 use Rattle.hc_core.specs.Serving.{MayAnswerAll}
@@ -46,6 +46,7 @@ step_keeps history (Forgets station) e = search rules
 step_keeps history (SendsReady tasks) e = search rules
 step_keeps history (Clears station) e = search rules
 step_keeps history (Unplugs station) e = search rules
+step_keeps history SendsFurther e = search rules
 
 one_keeps : (history next : History) (step : Step) (answer_given : Answer) → MayAnswer history step answer_given next → leaves_nothing answer_given ≡ true → SameWithout next history
 one_keeps history next step answer_given may e = search (rules, step_keeps)

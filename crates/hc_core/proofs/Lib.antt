@@ -42,3 +42,4 @@ pub mod PartsSent
 pub mod Rooms
 pub mod ChosenBlocks
 pub mod FirstBlocks
+pub mod Further

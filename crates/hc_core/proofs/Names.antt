@@ -43,14 +43,14 @@ own-names history project = λ a b in_a in_b same. one-name (line_of history) (p
 
 -- so a frame of writes leaves what is owed
 
-wrote_alike : (history : History) (blocks : List LineBlock) (other : LineBlock) → HasOwnNames (line_of history) → IsWrite (owed_blocks history) blocks → Contains (line_blocks (line_of history)) other
+wrote_alike : (history : History) (blocks : List LineBlock) (other : LineBlock) → HasOwnNames (line_of history) → IsWrite history blocks → Contains (line_blocks (line_of history)) other
     → is_owed (Wrote blocks ∷ history) other ≡ is_owed history other
 wrote_alike history blocks other names write inside =
     by_bool (sends (block_item other) (Wrote blocks))
     (λ t. let owed = written-is_owed history blocks other t in owed ∙ sym (wrote-owes history blocks other names write inside owed))
     (λ t. others-as_before history blocks other t)
 
-pub owed-wrote : (history : History) (blocks : List LineBlock) → lowest_fault (groups_of (state_of history).groups) ≡ None → IsWrite (owed_blocks history) blocks
+pub owed-wrote : (history : History) (blocks : List LineBlock) → lowest_fault (groups_of (state_of history).groups) ≡ None → IsWrite history blocks
     → owed_blocks (Wrote blocks ∷ history) ≡ owed_blocks history
 owed-wrote history blocks project write =
     let all = line_blocks (line_of history) in

@@ -14,7 +14,7 @@ use Rattle.hc_events.specs.Arrivals.{Arrival, arrival_in}
 use Rattle.hc_events.specs.Calls.{MayAnswer}
 use Rattle.hc_events.specs.Entries.{History, Came}
 use Rattle.hc_events.specs.Stale.{SameAfter, without_stale}
-use Rattle.hc_events.specs.Steps.{Step, Edits, Posts, PostsSteady, SendsTasks, SendsWrite, Arrives, Reads, Forgets, answer_to, entries_after, image_of, read_faults, arrival_answer, sent_write_answer, unless, with_arrival, SendsWrites, writes_answer, SendsReady, Clears, Unplugs}
+use Rattle.hc_events.specs.Steps.{Step, Edits, Posts, PostsSteady, SendsTasks, SendsWrite, Arrives, Reads, Forgets, answer_to, entries_after, image_of, read_faults, arrival_answer, sent_write_answer, unless, with_arrival, SendsWrites, SendsFurther, writes_answer, SendsReady, Clears, Unplugs}
 use Rattle.hc_events.proofs.lemmas.SameAfter.{same-after_it, same-stale, same-without}
 use Rattle.hc_core.specs.LastData.{IsAsWithoutStale, ReadsShowLastData, ShowsLastData, StaleLeavesNothing}
 use Rattle.hc_core.specs.Serving.{MayAnswerAll}
@@ -68,6 +68,7 @@ stale_step history next (Forgets station) answer_given entries later = search (r
 stale_step history next (SendsReady tasks) answer_given entries later = search (rules, unless_stale)
 stale_step history next (Clears station) answer_given entries later = search (rules, unless_stale)
 stale_step history next (Unplugs station) answer_given entries later = search (rules, unless_stale)
+stale_step history next SendsFurther answer_given entries later = search (rules, unless_stale, no_writes_stale)
 stale_step history next (Reads task) answer_given entries later = absurd (unless_stale (lowest (read_faults task)) (image_of history task) refl answer_given)
 
 pub stale-leaves : (history next : History) (step : Step) (answer_given : Answer) → MayAnswer history step answer_given next → StaleLeavesNothing history answer_given next

@@ -6,7 +6,7 @@ use Rattle.hc_records.specs.Line.{groups_of, line}
 use Rattle.hc_records.specs.Project.{lowest_fault}
 use Rattle.hc_records.specs.Lists.{lowest}
 use Rattle.hc_frames.specs.declared.limits.TheConstants.{SETUP_SERIAL}
-use Rattle.hc_events.specs.Accepted.{AreAccepted, IsWrite}
+use Rattle.hc_events.specs.Accepted.{AreAccepted, IsFirstWrite, IsWrite}
 use Rattle.hc_events.specs.Changes.{updates_of}
 use Rattle.hc_events.specs.Entries.{History, Sent, Wrote}
 use Rattle.hc_events.specs.Holding.{is_unplugged, may_hold}
@@ -16,14 +16,14 @@ use Rattle.hc_events.specs.Points.{next_serial, state_of}
 use Rattle.hc_events.specs.Sendings.{Frame, Named}
 use Rattle.hc_events.specs.Steps.{SendsReady, SendsTasks, unless_fault, proposal, ready_faults, task_faults, with_sent}
 use Rattle.hc_events.proofs.lemmas.Accepted.{accepted-more, unchanged-after}
-use Rattle.hc_sendings.specs.Waiting.{all_sent, awaited_block, wrote}
+use Rattle.hc_sendings.specs.Waiting.{Waiting, all_sent, awaited_block, wrote, wrote_further}
 use Rattle.hc_sendings.specs.declared.write_frames.PlacedBlock.{PlacedBlock}
 use Rattle.hc_sendings.specs.WriteFrames.{block_of}
 use Rattle.hc_owed.specs.declared.area.JudgedArea.{JudgedArea}
 use Rattle.hc_owed.specs.Readiness.{readiness_of}
 use Rattle.hc_owed.specs.RegisterState.{RegisterState, register_state_of}
 use Rattle.hc_core.proofs.AreasKept.{areas-alike, areas-wrote, same-hold}
-use Rattle.hc_core.proofs.Awaits.{waits-wrote}
+use Rattle.hc_core.proofs.Awaits.{waits-wrote, waits-wrote_further}
 use Rattle.hc_core.proofs.Posts.{values-sent, values-wrote}
 use Rattle.hc_core.proofs.Known.{unchanged-alike, known-wrote}
 use Rattle.hc_core.proofs.SentAll.{waits-all_sent}
@@ -99,19 +99,18 @@ agree-sent unchanged history taken tasks none left agree =
 one_left : (n most : ℕ) → n < most → n + 1 ≤ most
 one_left n most less = omega (arith, less)
 
-pub agree-wrote : (unchanged : CoreParts) (history taken : History) (placed : List PlacedBlock) (owed : RegisterState) (readiness : List JudgedArea) → IsWrite (owed_blocks history) (map block_of placed) → All (IsLineBlock (state_of history)) placed → unchanged.serial < SETUP_SERIAL
-    → owed ≡ register_state_of (known_sent placed (known_bytes history)) (state_of history)
+agree_after : (unchanged : CoreParts) (history taken : History) (placed : List PlacedBlock) (waiting : Waiting) (owed : RegisterState) (readiness : List JudgedArea) → IsWrite history (map block_of placed) → All (IsLineBlock (state_of history)) placed
+    → unchanged.serial < SETUP_SERIAL → Waits (Wrote (map block_of placed) ∷ history) waiting → owed ≡ register_state_of (known_sent placed (known_bytes history)) (state_of history)
     → readiness ≡ readiness_of (known_sent placed (known_bytes history)) (held_sent placed (may_hold history)) (is_unplugged history) (state_of history) → Agree unchanged history taken
-    → Agree (record unchanged { awaited = wrote unchanged.serial (map awaited_block placed) unchanged.awaited; owed = owed; readiness = readiness; serial = unchanged.serial + 1 }) (Wrote (map block_of placed) ∷ history) taken
-agree-wrote unchanged history taken placed owed readiness write at left sent ready agree = record {
+    → Agree (record unchanged { awaited = waiting; owed = owed; readiness = readiness; serial = unchanged.serial + 1 }) (Wrote (map block_of placed) ∷ history) taken
+agree_after unchanged history taken placed waiting owed readiness write at left waits sent ready agree = record {
   accepted = (write, agree.accepted);
   state = agree.state;
   project = agree.project;
   uncrowded = agree.uncrowded;
   serial = ap (λ m. m + 1) agree.serial;
   left = one_left unchanged.serial SETUP_SERIAL left;
-  waits = subst (λ m. Waits (Wrote (map block_of placed) ∷ history) (wrote m (map awaited_block placed) unchanged.awaited)) (sym agree.serial)
-      (waits-wrote history unchanged.awaited placed (subst (λ n. 0 < n) (same-length placed) write.some) at agree.waits);
+  waits = waits;
   slots = agree.slots;
   dates = agree.dates;
   epochs = agree.epochs;
@@ -120,3 +119,25 @@ agree-wrote unchanged history taken placed owed readiness write at left sent rea
   ready = areas-wrote readiness history placed agree.project at ready;
   shows = record { answer_given = agree.shows.answer_given; legal = agree.shows.legal; exact = agree.shows.exact; after_it = agree.shows.after_it };
 }
+
+-- of the first owed blocks
+pub agree-wrote : (unchanged : CoreParts) (history taken : History) (placed : List PlacedBlock) (owed : RegisterState) (readiness : List JudgedArea) → IsWrite history (map block_of placed) → IsFirstWrite (owed_blocks history) (map block_of placed)
+    → All (IsLineBlock (state_of history)) placed → unchanged.serial < SETUP_SERIAL
+    → owed ≡ register_state_of (known_sent placed (known_bytes history)) (state_of history)
+    → readiness ≡ readiness_of (known_sent placed (known_bytes history)) (held_sent placed (may_hold history)) (is_unplugged history) (state_of history) → Agree unchanged history taken
+    → Agree (record unchanged { awaited = wrote unchanged.serial (map awaited_block placed) unchanged.awaited; owed = owed; readiness = readiness; serial = unchanged.serial + 1 }) (Wrote (map block_of placed) ∷ history) taken
+agree-wrote unchanged history taken placed owed readiness write first at left sent ready agree =
+    agree_after unchanged history taken placed (wrote unchanged.serial (map awaited_block placed) unchanged.awaited) owed readiness write at left
+    (subst (λ m. Waits (Wrote (map block_of placed) ∷ history) (wrote m (map awaited_block placed) unchanged.awaited)) (sym agree.serial)
+    (waits-wrote history unchanged.awaited placed (subst (λ n. 0 < n) (same-length placed) write.some) first at agree.waits)) sent ready agree
+
+-- of further ones
+pub agree-wrote_further : (unchanged : CoreParts) (history taken : History) (placed : List PlacedBlock) (owed : RegisterState) (readiness : List JudgedArea) → IsWrite history (map block_of placed)
+    → All (IsLineBlock (state_of history)) placed → unchanged.serial < SETUP_SERIAL
+    → owed ≡ register_state_of (known_sent placed (known_bytes history)) (state_of history)
+    → readiness ≡ readiness_of (known_sent placed (known_bytes history)) (held_sent placed (may_hold history)) (is_unplugged history) (state_of history) → Agree unchanged history taken
+    → Agree (record unchanged { awaited = wrote_further unchanged.serial (map awaited_block placed) unchanged.awaited; owed = owed; readiness = readiness; serial = unchanged.serial + 1 }) (Wrote (map block_of placed) ∷ history) taken
+agree-wrote_further unchanged history taken placed owed readiness write at left sent ready agree =
+    agree_after unchanged history taken placed (wrote_further unchanged.serial (map awaited_block placed) unchanged.awaited) owed readiness write at left
+    (subst (λ m. Waits (Wrote (map block_of placed) ∷ history) (wrote_further m (map awaited_block placed) unchanged.awaited)) (sym agree.serial)
+    (waits-wrote_further history unchanged.awaited placed (subst (λ n. 0 < n) (same-length placed) write.some) at agree.waits)) sent ready agree

@@ -12,7 +12,7 @@ use Rattle.hc_events.specs.Steps.{proposal, with_sent}
 use Rattle.hc_events.proofs.lemmas.Accepted.{proposal-is_placed}
 use Rattle.hc_events.proofs.lemmas.Frames.{proposals-numbered}
 use Rattle.hc_sendings.specs.History.{KeepsAwaited}
-use Rattle.hc_sendings.specs.Waiting.{Waiting, all_sent, sent, AwaitedWrite}
+use Rattle.hc_sendings.specs.Waiting.{all_sent, all_writes, AwaitedWrite, sent, Waiting}
 use Rattle.hc_sendings.proofs.lemmas.Sent.{HasFirst, frames-first, waits-sent}
 use Rattle.hc_core.specs.Waits.{Waits}
 use Rattle.hc_core.specs.Chosen.{IsAwaitedAt}
@@ -35,7 +35,7 @@ frames_wait (frame ∷ frames) history unchanged line same numbers some are_plac
 
 -- frames of tasks leave the writes that are awaited, and the line
 
-same_writes : (frames : List Frame) (unchanged : Waiting) → (all_sent unchanged frames).writes ≡ unchanged.writes
+same_writes : (frames : List Frame) (unchanged : Waiting) → all_writes (all_sent unchanged frames) ≡ all_writes unchanged
 same_writes [] unchanged = refl
 same_writes (frame ∷ frames) unchanged = same_writes frames (sent unchanged frame)
 
@@ -50,5 +50,5 @@ waits-all_sent history unchanged tasks waits =
       unchanged = frames_wait frames history unchanged (line_of history) refl (proposals-numbered history tasks)
           (frames-first (line_of history) (next_serial history) (flat_map (task_datagrams (line_of history)) tasks)) (proposal-is_placed history tasks) waits.unchanged;
       placed = subst (λ writes. All (λ write. All (IsAwaitedAt (state_of (with_sent history frames))) write.blocks) writes) (sym (same_writes frames unchanged))
-          (subst (λ state. All (λ (write : AwaitedWrite). All (IsAwaitedAt state) write.blocks) unchanged.writes) (sym (same_state frames history)) waits.placed);
+          (subst (λ state. All (λ (write : AwaitedWrite). All (IsAwaitedAt state) write.blocks) (all_writes unchanged)) (sym (same_state frames history)) waits.placed);
     }

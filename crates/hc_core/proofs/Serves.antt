@@ -17,7 +17,7 @@ use Rattle.hc_events.specs.Ready.{with_cleared}
 use Rattle.hc_events.specs.Faults.{edit_refusal}
 use Rattle.hc_events.specs.Owed.{owed_blocks}
 use Rattle.hc_events.specs.Points.{state_of}
-use Rattle.hc_events.specs.Steps.{Step, Edits, Posts, PostsSteady, SendsTasks, SendsWrite, SendsWrites, Reads, Forgets, SendsReady, Clears, Unplugs, answer_to, clear_faults, edit_refused, entries_after, forget_faults, post_faults, post_steady_faults, ready_faults, task_faults, edit_answer, unplug_faults, write_faults}
+use Rattle.hc_events.specs.Steps.{Step, Edits, Posts, PostsSteady, SendsTasks, SendsWrite, SendsWrites, Reads, Forgets, SendsReady, Clears, Unplugs, SendsFurther, answer_to, clear_faults, edit_refused, entries_after, forget_faults, further_faults, post_faults, post_steady_faults, ready_faults, task_faults, edit_answer, unplug_faults, write_faults}
 use Rattle.hc_core.specs.Early.{ShowsEarly}
 use Rattle.hc_core.specs.Serving.{MayAnswerAll, answer_of, answer_of_clear, answer_of_edit, answer_of_forget, answer_of_post, answer_of_unplug, answer_or_memory}
 use Rattle.hc_core.specs.State.{CoreState}
@@ -39,6 +39,10 @@ write-served old new result answers names entries same = search rules
 pub writes-served : (old new : History) (result : Result Answer CoreFault) → IfOk result (λ answer_given. answer_given ≡ answer_to old SendsWrites)
     → IfErr result (λ found. found ≢ fault.Memory → lowest (write_faults old (owed_blocks old)) ≡ Some found) → OnOk result (new ≡ entries_after old SendsWrites) → OnErr result (new ≡ old) → MayAnswer old SendsWrites (answer_of result) new
 writes-served old new result answers names entries same = search rules
+
+pub further-served : (old new : History) (result : Result Answer CoreFault) → IfOk result (λ answer_given. answer_given ≡ answer_to old SendsFurther)
+    → IfErr result (λ found. found ≢ fault.Memory → lowest (further_faults old) ≡ Some found) → OnOk result (new ≡ entries_after old SendsFurther) → OnErr result (new ≡ old) → MayAnswer old SendsFurther (answer_of result) new
+further-served old new result answers names entries same = search rules
 
 pub tasks-served : (old new : History) (tasks : List ℕ) (result : Result Answer CoreFault) → IfOk result (λ answer_given. answer_given ≡ answer_to old (SendsTasks tasks))
     → IfErr result (λ found. found ≢ fault.Memory → lowest (task_faults old tasks) ≡ Some found) → OnOk result (new ≡ entries_after old (SendsTasks tasks)) → OnErr result (new ≡ old) → MayAnswer old (SendsTasks tasks) (answer_of result) new

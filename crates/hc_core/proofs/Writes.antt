@@ -17,7 +17,7 @@ use Rattle.hc_events.specs.declared.answer.Answer.TheVariants as answer
 use Rattle.hc_events.specs.declared.faults.CoreFault.{CoreFault}
 use Rattle.hc_events.specs.declared.faults.CoreFault.TheVariants.{NothingOwed, SerialsSpent}
 use Rattle.hc_events.specs.declared.sending.TheConstants.{FRAME_BLOCKS}
-use Rattle.hc_events.specs.Accepted.{IsWrite}
+use Rattle.hc_events.specs.Accepted.{IsFirstWrite, IsWrite}
 use Rattle.hc_events.specs.Calls.{room_faults, write_all_into_faults, write_into_faults, write_size}
 use Rattle.hc_events.specs.Entries.{History, Wrote}
 use Rattle.hc_events.specs.Owed.{owed_blocks}
@@ -49,7 +49,7 @@ first-one history = one_front (owed_blocks history) (λ block rest first. small_
 
 frame_few : (history : History) (blocks : List LineBlock) → frame_blocks (owed_blocks history) ≡ blocks → length blocks ≤ FRAME_BLOCKS
 frame_few history [] same = omega arith
-frame_few history (block ∷ blocks) same = write-few history (block ∷ blocks) (record { some = some_more block blocks; first = inr (sym same) })
+frame_few history (block ∷ blocks) same = write-few history (block ∷ blocks) (record { some = some_more block blocks; first = inl (inr (sym same)) })
   where
     some_more : (block : LineBlock) (blocks : List LineBlock) → 0 < length (block ∷ blocks)
     some_more block blocks = omega arith
@@ -70,13 +70,17 @@ take_some : (blocks : List LineBlock) → 0 < length blocks → 0 < length (take
 take_some [] some = some
 take_some (block ∷ blocks) some = omega arith
 
-pub first-write : (history : History) (most : ℕ) → IsMost most → lowest (write_faults history (owed_blocks history)) ≡ None → IsWrite (owed_blocks history) (first_blocks most history)
+pub first-kind : (history : History) (most : ℕ) → IsMost most → IsFirstWrite (owed_blocks history) (first_blocks most history)
+first-kind history most (inl one) = inl (ap (λ n. first_blocks n history) one ∙ first-one history)
+first-kind history most (inr all) = inr (ap (λ n. first_blocks n history) all ∙ first-all history)
+
+pub first-write : (history : History) (most : ℕ) → IsMost most → lowest (write_faults history (owed_blocks history)) ≡ None → IsWrite history (first_blocks most history)
 first-write history most (inl one) none =
-    subst (λ n. IsWrite (owed_blocks history) (first_blocks n history)) (sym one)
-    (subst (IsWrite (owed_blocks history)) (sym (first-one history)) (record { some = take_some (owed_blocks history) (some-owed history none); first = inl refl }))
+    subst (λ n. IsWrite history (first_blocks n history)) (sym one)
+    (subst (IsWrite history) (sym (first-one history)) (record { some = take_some (owed_blocks history) (some-owed history none); first = inl (inl refl) }))
 first-write history most (inr all) none =
-    subst (λ n. IsWrite (owed_blocks history) (first_blocks n history)) (sym all)
-    (subst (IsWrite (owed_blocks history)) (sym (first-all history)) (record { some = frame-holds history (some-owed history none); first = inr refl }))
+    subst (λ n. IsWrite history (first_blocks n history)) (sym all)
+    (subst (IsWrite history) (sym (first-all history)) (record { some = frame-holds history (some-owed history none); first = inl (inr refl) }))
 
 pub serial-left : (history : History) → lowest (write_faults history (owed_blocks history)) ≡ None → next_serial history < SETUP_SERIAL
 serial-left history none =
@@ -128,10 +132,10 @@ writes-entries history none =
 pub writes-answer_given : (history : History) → lowest (write_faults history (owed_blocks history)) ≡ None → answer_to history SendsWrites ≡ writes_answer (next_serial history) (frame_blocks (owed_blocks history))
 writes-answer_given history none = answered_next (lowest (write_faults history (owed_blocks history))) (writes_answer (next_serial history) (frame_blocks (owed_blocks history))) none
 
-sent_answered : (serial : ℕ) (blocks : List LineBlock) → 0 < length blocks → sent_answer (writes_text serial blocks) (length blocks) ≡ writes_answer serial blocks
-sent_answered serial [] some = absurd (omega arith)
-sent_answered serial (block ∷ []) some = refl
-sent_answered serial (block ∷ next ∷ blocks) some = ap (λ b. cond b (answer.WriteSent (writes_text serial (block ∷ next ∷ blocks))) (answer.WritesSent (writes_text serial (block ∷ next ∷ blocks)))) (not_one (length blocks))
+pub sent-answered : (serial : ℕ) (blocks : List LineBlock) → 0 < length blocks → sent_answer (writes_text serial blocks) (length blocks) ≡ writes_answer serial blocks
+sent-answered serial [] some = absurd (omega arith)
+sent-answered serial (block ∷ []) some = refl
+sent-answered serial (block ∷ next ∷ blocks) some = ap (λ b. cond b (answer.WriteSent (writes_text serial (block ∷ next ∷ blocks))) (answer.WritesSent (writes_text serial (block ∷ next ∷ blocks)))) (not_one (length blocks))
   where
     not_one : (n : ℕ) → (suc (suc n) == 1) ≡ false
     not_one n = grind (arith, nat_tests)
@@ -140,7 +144,7 @@ pub sent-answer_given : (history : History) → lowest (write_faults history (ow
     → sent_answer (writes_text (next_serial history) (first_blocks FRAME_BLOCKS history)) (length (first_blocks FRAME_BLOCKS history)) ≡ answer_to history SendsWrites
 sent-answer_given history none =
     ap (λ blocks. sent_answer (writes_text (next_serial history) blocks) (length blocks)) (first-all history)
-    ∙ sent_answered (next_serial history) (frame_blocks (owed_blocks history)) (frame-holds history (some-owed history none)) ∙ sym (writes-answer_given history none)
+    ∙ sent-answered (next_serial history) (frame_blocks (owed_blocks history)) (frame-holds history (some-owed history none)) ∙ sym (writes-answer_given history none)
 
 -- what refuses a slice
 

@@ -1,5 +1,5 @@
 -- The owed blocks that a frame carries, by what is kept of the line's blocks, and what is kept once they are sent and once they are answered. Contracts inside the crate cite it.
-use Rattle.std.specs.Prelude.{◌≡◌, ℕ, ◌+◌, Bool, true, false, if◌then◌else◌, All, List, [], ◌∷◌, ◌++◌, map, option_map, slice_get, take, Option, None, Some}
+use Rattle.std.specs.Prelude.{◌≡◌, ℕ, ◌+◌, ◌≤◌, not, filter, Bool, true, false, if◌then◌else◌, All, List, [], ◌∷◌, ◌++◌, map, option_map, slice_get, take, MatchOption, Option, None, Some}
 use Rattle.std.specs.List.{list_any}
 use Rattle.hc_records.specs.Line.{State, groups_of, line}
 use Rattle.hc_records.specs.Project.{lowest_fault}
@@ -18,12 +18,14 @@ use Rattle.hc_owed.specs.Laws.{known_with, owed_from}
 use Rattle.hc_sendings.specs.declared.write_frames.PlacedBlock.{PlacedBlock}
 use Rattle.hc_sendings.specs.declared.writes.AwaitedBlock.{AwaitedBlock}
 use Rattle.hc_sendings.specs.Judging.{written_head}
+use Rattle.hc_sendings.specs.Waiting.{Waiting, is_newest_awaited}
 use Rattle.hc_sendings.specs.WriteFrames.{WriteFrame, block_of}
 
--- what is kept of the blocks is right for a project's state
-pub record KeepsBlocks (register_state : RegisterState) : Type 0 where
+-- what is kept of the blocks is right for a project's state, which a plan has
+pub record KeepsBlocks (register_state : RegisterState) (plan : State) : Type 0 where
   pub known : Knowledge
   pub state : State
+  pub planned : plan ≡ state
   pub project : lowest_fault (groups_of state.groups) ≡ None
   pub right : register_state ≡ register_state_of known state
 
@@ -31,15 +33,29 @@ pub record KeepsBlocks (register_state : RegisterState) : Type 0 where
 abbrev pub IsLineBlock : State → PlacedBlock → Type 0
 IsLineBlock state placed = slice_get (places state) placed.place ≡ Some (Some placed.block)
 
--- a block is the first one that is lacking at a place or after it, and the others are lacking after its place
-pub record IsNext (known : Knowledge) (state : State) (place : ℕ) (placed : PlacedBlock) : Type 0 where
-  pub at : IsLineBlock state placed
-  pub next : owed_from known state place ≡ placed.block ∷ owed_from known state (placed.place + 1)
+-- those of the lacking blocks from a place on whose newest write isn't awaited
+abbrev pub further_from : Knowledge → State → Waiting → ℕ → List LineBlock
+further_from known state waiting place =
+    filter (λ block. not (is_newest_awaited block.station block.number waiting)) (owed_from known state place)
 
--- the blocks that are lacking from a place on joined a frame: as many as it had room for, but so many at most
-pub record IsChosenFrom (known : Knowledge) (state : State) (place most : ℕ) (old new : WriteFrame) : Type 0 where
-  pub blocks : map block_of new.blocks ≡ map block_of old.blocks ++ take most (blocks_beside old.bytes (owed_from known state place))
-  pub bytes : new.bytes ≡ old.bytes + blocks_bytes (take most (blocks_beside old.bytes (owed_from known state place)))
+-- some of the lacking blocks, by the place from which on they are sought
+abbrev pub Source : Type 0
+Source = ℕ → List LineBlock
+
+-- a block is the first one of these at a place or after it, and the others are after its place
+pub record IsNext (source : Source) (state : State) (place : ℕ) (placed : PlacedBlock) : Type 0 where
+  pub from : place ≤ placed.place
+  pub at : IsLineBlock state placed
+  pub next : source place ≡ placed.block ∷ source (placed.place + 1)
+
+-- the next one from a place on, or none where there is none
+abbrev pub GivesNext : Source → State → ℕ → Option PlacedBlock → Type 0
+GivesNext source state place found = MatchOption found (source place ≡ []) (IsNext source state place)
+
+-- the blocks of these from a place on joined a frame: as many as it had room for, but so many at most
+pub record IsChosenFrom (source : Source) (state : State) (place most : ℕ) (old new : WriteFrame) : Type 0 where
+  pub blocks : map block_of new.blocks ≡ map block_of old.blocks ++ take most (blocks_beside old.bytes (source place))
+  pub bytes : new.bytes ≡ old.bytes + blocks_bytes (take most (blocks_beside old.bytes (source place)))
   pub placed : All (IsLineBlock state) old.blocks → All (IsLineBlock state) new.blocks
 
 -- blocks can be marked as sent: they are at their places, and they are lacking
@@ -62,10 +78,11 @@ pub record IsAwaitedAt (state : State) (block : AwaitedBlock) : Type 0 where
   pub at : slice_get (places state) block.place ≡ Some (Some found)
   pub head : written_head block ≡ write_head found
 
--- what is kept is right for a project's state, of whose line these blocks are
-pub record CanConfirm (register_state : RegisterState) (blocks : List AwaitedBlock) : Type 0 where
+-- what is kept is right for a project's state, which a plan has, and of whose line these blocks are
+pub record CanConfirm (register_state : RegisterState) (plan : State) (blocks : List AwaitedBlock) : Type 0 where
   pub known : Knowledge
   pub state : State
+  pub planned : plan ≡ state
   pub project : lowest_fault (groups_of state.groups) ≡ None
   pub right : register_state ≡ register_state_of known state
   pub placed : All (IsAwaitedAt state) blocks

@@ -12,7 +12,7 @@ use Rattle.hc_events.specs.Entries.{History}
 use Rattle.hc_events.specs.Faults.{edit_refusal, frame_refusal}
 use Rattle.hc_events.specs.Owed.{owed_blocks}
 use Rattle.hc_events.specs.Points.{state_of}
-use Rattle.hc_events.specs.Steps.{Step, Edits, Posts, PostsSteady, SendsTasks, SendsWrite, SendsWrites, Arrives, Reads, Forgets, SendsReady, Clears, Unplugs, clear_faults, forget_faults, is_no_task, post_faults, post_steady_faults, read_faults, unplug_faults, wait_fault, write_faults}
+use Rattle.hc_events.specs.Steps.{Step, Edits, Posts, PostsSteady, SendsTasks, SendsWrite, SendsWrites, Arrives, Reads, Forgets, SendsReady, Clears, Unplugs, SendsFurther, clear_faults, forget_faults, further_faults, is_no_task, post_faults, post_steady_faults, read_faults, unplug_faults, wait_fault, write_faults}
 use Rattle.hc_sendings.specs.Refusals.{early_faults}
 
 -- what refuses ready tasks before any frame is planned, in order: 8 one is no task, 36 the first of them that waits
@@ -33,6 +33,7 @@ early_fault history (Forgets station) = lowest (forget_faults history station)
 early_fault history (SendsReady tasks) = lowest (early_ready_faults history tasks)
 early_fault history (Clears station) = lowest (clear_faults history station)
 early_fault history (Unplugs station) = lowest (unplug_faults history station)
+early_fault history SendsFurther = lowest (further_faults history)
 
 -- it is reported
 abbrev pub ShowsEarly : History → Step → Answer → Type 0

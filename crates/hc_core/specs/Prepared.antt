@@ -1,5 +1,5 @@
 -- An edit that is prepared for a core, before anything changes.
-use Rattle.std.specs.Prelude.{◌≡◌, ℕ, ◌+◌, ◌*◌, ◌<◌, Bool, false, Contains, List, [], length, Option, Some, None}
+use Rattle.std.specs.Prelude.{◌≡◌, ℕ, ◌+◌, ◌*◌, ◌<◌, Bool, false, Contains, List, [], length, Option, Some, None, vec_capacity}
 use Rattle.hc_records.specs.declared.edit.Edit.{Edit}
 use Rattle.hc_records.specs.declared.edit.Edit.TheVariants.{Declare}
 use Rattle.hc_records.specs.declared.records.Group.{Group}
@@ -7,7 +7,6 @@ use Rattle.hc_records.specs.declared.records.Slave.{Slave}
 use Rattle.hc_records.specs.Edits.{declares}
 use Rattle.hc_registers.specs.RankPlaces.{stations}
 use Rattle.hc_places.specs.Table.{table_of}
-use Rattle.hc_images.specs.Moves.{Moves}
 use Rattle.hc_owed.specs.declared.area.JudgedArea.{JudgedArea}
 use Rattle.hc_owed.specs.EditWaits.{areas_cleared}
 use Rattle.hc_owed.specs.Readiness.{Holdings, readiness_of}
@@ -17,10 +16,10 @@ use Rattle.hc_owed.specs.Laws.{known_over}
 use Rattle.hc_owed.specs.RegisterState.{RegisterState, Knowledge, register_state_of}
 use Rattle.hc_owed.specs.Room.{IsOwedRoomFor}
 use Rattle.hc_plan.specs.Prepared.{IsPrepared, PreparedEdit}
-use Rattle.hc_events.specs.declared.change.Change.{Change}
 use Rattle.hc_events.specs.Changes.{updates_of}
 use Rattle.hc_events.specs.Points.{line_of, state_of}
 use Rattle.hc_core.specs.declared.declaring.SlaveRoom.{SlaveRoom}
+use Rattle.hc_core.specs.declared.prepared.PlannedEdit.{PlannedEdit}
 use Rattle.hc_core.specs.State.{CoreState}
 
 -- the core that an edit is prepared for, and what the edit makes of its line
@@ -60,11 +59,11 @@ abbrev pub areas_foretold : {owed : RegisterState} {readiness : List JudgedArea}
 areas_foretold {owed} {readiness} {edit} {memory} can = areas_cleared can.known can.held can.unplugged edit.old edit.new
 
 -- the edit is one of the core's line, output values are to move as it says, there is memory for the slaves that it declares, and memory without a change in it has room for the changes that nobody took and one more
-pub record CanBeCarriedOut (core : CoreState) (edit : PreparedEdit) (moves : Moves) (memory : Option SlaveRoom) (room : List Change) (capacity : ℕ) : Type 0 where
-  pub made : edit.old ≡ state_of core.history
-  pub prepared : IsPrepared edit
-  pub table : moves.before ≡ table_of (line_of core.history)
-  pub change : moves.change ≡ edit.report.swap.change
-  pub slaves : HasSlaveRoom (length (stations edit.old)) edit.report.swap.edit memory
-  pub empty : room ≡ []
-  pub fits : length (updates_of core.history) < length (updates_of core.taken) + capacity
+pub record CanBeCarriedOut (core : CoreState) (planned : PlannedEdit) : Type 0 where
+  pub made : planned.edit.old ≡ state_of core.history
+  pub prepared : IsPrepared planned.edit
+  pub table : planned.moves.before ≡ table_of (line_of core.history)
+  pub change : planned.moves.change ≡ planned.edit.report.swap.change
+  pub slaves : HasSlaveRoom (length (stations planned.edit.old)) planned.edit.report.swap.edit planned.slaves
+  pub empty : planned.room.items ≡ []
+  pub fits : length (updates_of core.history) < length (updates_of core.taken) + vec_capacity planned.room

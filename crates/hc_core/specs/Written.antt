@@ -9,7 +9,8 @@ use Rattle.hc_events.specs.Calls.{room_faults, write_size}
 use Rattle.hc_events.specs.Entries.{History}
 use Rattle.hc_events.specs.Owed.{owed_blocks}
 use Rattle.hc_events.specs.Points.{next_serial}
-use Rattle.hc_events.specs.Steps.{SendsWrite, SendsWrites, answer_to, writes_answer, write_faults}
+use Rattle.hc_events.specs.Steps.{SendsFurther, SendsWrite, SendsWrites, answer_to, writes_answer, write_faults}
+use Rattle.hc_events.specs.UnderWay.{further_blocks}
 use Rattle.hc_events.specs.WriteFrames.{frame_blocks, writes_size, writes_text}
 use Rattle.hc_core.specs.declared.writing.SentWrites.{SentWrites}
 
@@ -42,6 +43,11 @@ pub record HoldsBlocks (history : History) (blocks : List LineBlock) (old new : 
 pub record HoldsWrites (history : History) (old new : List ℕ) (sent : SentWrites) : Type 0 where
   pub answer_given : answer_to history SendsWrites ≡ writes_answer (next_serial history) (frame_blocks (owed_blocks history))
   pub blocks : HoldsBlocks history (frame_blocks (owed_blocks history)) old new sent
+
+-- the same of the first owed blocks that aren't under way
+pub record HoldsFurther (history : History) (old new : List ℕ) (sent : SentWrites) : Type 0 where
+  pub answer_given : answer_to history SendsFurther ≡ writes_answer (next_serial history) (frame_blocks (further_blocks history))
+  pub blocks : HoldsBlocks history (frame_blocks (further_blocks history)) old new sent
 
 -- the answer to a frame with this text that writes so many blocks: a single write's where it is one
 abbrev pub sent_answer : List ℕ → ℕ → Answer

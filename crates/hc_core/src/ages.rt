@@ -17,7 +17,7 @@ pub(crate) struct DataAge {
     pub(crate) epoch: u32,
 }
 
-/// So many datagrams in a row have no age from now on.
+/// Takes the age from `count` datagrams in a row.
 fn clear_ages(ages: &mut [Option<DataAge>], from: usize, count: usize)
     requires { from + count ≤ length ages.old }
     ensures size { length ages.new ≡ length ages.old }

@@ -90,7 +90,7 @@ impl Core {
         ensures { self.new ≡ record self.old { history = Came arrival.now ∷ self.old.history } }
     {
         let blocks = self.awaited.written(arrival.serial());
-        confirm(&mut self.owed, blocks, outcomes);
+        confirm(&mut self.owed, &self.plan, blocks, outcomes);
         confirm_areas(&mut self.readiness, blocks, outcomes);
         self.awaited.end(arrival.serial());
         self.history = self.history.came(bytes);

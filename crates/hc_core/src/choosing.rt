@@ -1,20 +1,22 @@
 //! Which owed register blocks a frame carries, and what becomes of them when it is sent and when it is answered. `writing` and
 //! `arriving` call it.
-ghost use Rattle.std.specs.Prelude.{◌≡◌, [], ◌∷◌, MatchOption};
+ghost use Rattle.std.specs.Prelude.{◌≡◌, [], ◌∷◌};
 ghost use Rattle.hc_owed.specs.RegisterState.{register_state_of};
 ghost use Rattle.hc_owed.specs.Laws.{owed_from};
-ghost use Rattle.hc_core.specs.Chosen.{CanConfirm, CanMark, IsChosenFrom, IsNext, KeepsBlocks, known_done, known_if, known_sent};
+ghost use Rattle.hc_core.specs.Chosen.{CanConfirm, CanMark, GivesNext, IsChosenFrom, KeepsBlocks, further_from, known_done, known_if, known_sent};
 
 use hc_events::answer::Outcome;
 use hc_owed::owed::Owed;
+use hc_plan::plan::Plan;
+use hc_sendings::awaited::Awaited;
 use hc_sendings::write_frames::{PlacedBlock, WriteFrame};
 use hc_sendings::writes::AwaitedBlock;
 
 /// The first owed block at a place or after it, with its place; none where nothing is owed from there on.
-fn next_block(owed: &Owed, place: u32) -> Option<PlacedBlock>
-    ensures { (unchanged : KeepsBlocks owed.now) → MatchOption result (owed_from unchanged.known unchanged.state place ≡ []) (IsNext unchanged.known unchanged.state place) }
+fn next_block(owed: &Owed, plan: &Plan, place: u32) -> Option<PlacedBlock>
+    ensures { (unchanged : KeepsBlocks owed.now plan.now) → GivesNext (owed_from unchanged.known unchanged.state) unchanged.state place result }
 {
-    let found = owed.next_from(place)?;
+    let found = owed.next_from(plan, place)?;
     Some(PlacedBlock {
         place: found.place,
         block: found.block,
@@ -23,14 +25,14 @@ fn next_block(owed: &Owed, place: u32) -> Option<PlacedBlock>
 
 /// The first owed blocks from a place on join a frame, in their order and each with its place: as many as it has room for,
 /// and `most` at most. A frame has 74 blocks at most, so deep is this recursion.
-fn choose(frame: &mut WriteFrame, owed: &Owed, place: u32, most: usize)
-    requires { KeepsBlocks owed.now }
-    ensures { (unchanged : KeepsBlocks owed.now) → IsChosenFrom unchanged.known unchanged.state place most frame.old frame.new }
+fn choose(frame: &mut WriteFrame, owed: &Owed, plan: &Plan, place: u32, most: usize)
+    requires { KeepsBlocks owed.now plan.now }
+    ensures { (unchanged : KeepsBlocks owed.now plan.now) → IsChosenFrom (owed_from unchanged.known unchanged.state) unchanged.state place most frame.old frame.new }
 {
     if most == 0 {
         return;
     }
-    let Some(next) = next_block(owed, place) else {
+    let Some(next) = next_block(owed, plan, place) else {
         return;
     };
     if !frame.has_room(next.block.block.bytes().len() as u16) {
@@ -38,16 +40,16 @@ fn choose(frame: &mut WriteFrame, owed: &Owed, place: u32, most: usize)
     }
     let after = next.place + 1;
     frame.join(next);
-    choose(frame, owed, after, most - 1);
+    choose(frame, owed, plan, after, most - 1);
 }
 
 /// The first owed block alone joins a frame, where one is owed and the frame has room for it.
 #[inline(always)]
-fn choose_one(frame: &mut WriteFrame, owed: &Owed)
-    requires { KeepsBlocks owed.now }
-    ensures { (unchanged : KeepsBlocks owed.now) → IsChosenFrom unchanged.known unchanged.state 0 1 frame.old frame.new }
+fn choose_one(frame: &mut WriteFrame, owed: &Owed, plan: &Plan)
+    requires { KeepsBlocks owed.now plan.now }
+    ensures { (unchanged : KeepsBlocks owed.now plan.now) → IsChosenFrom (owed_from unchanged.known unchanged.state) unchanged.state 0 1 frame.old frame.new }
 {
-    if let Some(next) = next_block(owed, 0) {
+    if let Some(next) = next_block(owed, plan, 0) {
         if frame.has_room(next.block.block.bytes().len() as u16) {
             frame.join(next);
         }
@@ -56,15 +58,62 @@ fn choose_one(frame: &mut WriteFrame, owed: &Owed)
 
 /// The first owed blocks join a frame: one, or as many as it has room for, and `most` at most.
 #[inline(always)]
-pub(crate) fn choose_first(frame: &mut WriteFrame, owed: &Owed, most: usize)
-    requires { KeepsBlocks owed.now }
-    ensures { (unchanged : KeepsBlocks owed.now) → IsChosenFrom unchanged.known unchanged.state 0 most frame.old frame.new }
+pub(crate) fn choose_first(frame: &mut WriteFrame, owed: &Owed, plan: &Plan, most: usize)
+    requires { KeepsBlocks owed.now plan.now }
+    ensures { (unchanged : KeepsBlocks owed.now plan.now) → IsChosenFrom (owed_from unchanged.known unchanged.state) unchanged.state 0 most frame.old frame.new }
 {
     if most == 1 {
-        choose_one(frame, owed);
+        choose_one(frame, owed, plan);
     } else {
-        choose(frame, owed, 0, most);
+        choose(frame, owed, plan, 0, most);
     }
+}
+
+/// The first owed block at a place or after it that is not under way, with its place; none if there is none from there on.
+pub(crate) fn next_further(
+    owed: &Owed,
+    plan: &Plan,
+    awaited: &Awaited,
+    place: u32,
+) -> Option<PlacedBlock>
+    requires { KeepsBlocks owed.now plan.now }
+    ensures { (unchanged : KeepsBlocks owed.now plan.now) → GivesNext (further_from unchanged.known unchanged.state awaited.now) unchanged.state place result }
+{
+    let mut from = place;
+    while let Some(next) = next_block(owed, plan, from) {
+        if !awaited.is_newest_awaited(next.block.station, next.block.number) {
+            return Some(next);
+        }
+        from = next.place + 1;
+    }
+    None
+}
+
+/// The first owed blocks from a place on that are not under way join a frame, in their order and each with its place: as many
+/// as it has room for, and `most` at most. A frame has 74 blocks at most, so deep is this recursion.
+pub(crate) fn choose_further(
+    frame: &mut WriteFrame,
+    owed: &Owed,
+    plan: &Plan,
+    awaited: &Awaited,
+    place: u32,
+    most: usize,
+)
+    requires { KeepsBlocks owed.now plan.now }
+    ensures { (is : KeepsBlocks owed.now plan.now) → IsChosenFrom (further_from is.known is.state awaited.now) is.state place most frame.old frame.new }
+{
+    if most == 0 {
+        return;
+    }
+    let Some(next) = next_further(owed, plan, awaited, place) else {
+        return;
+    };
+    if !frame.has_room(next.block.block.bytes().len() as u16) {
+        return;
+    }
+    let after = next.place + 1;
+    frame.join(next);
+    choose_further(frame, owed, plan, awaited, after, most - 1);
 }
 
 /// Blocks are sent: until their answer nothing is known of them, and they are owed as before. They are 74 at most, so deep
@@ -79,7 +128,7 @@ fn mark_each(owed: &mut Owed, blocks: &[PlacedBlock])
     }
 }
 
-/// The same. One block needs no loop.
+/// Marks the blocks of a frame as sent. One block needs no loop.
 #[inline(always)]
 pub(crate) fn mark_sent(owed: &mut Owed, blocks: &[PlacedBlock])
     requires { CanMark owed.old blocks.now }
@@ -94,12 +143,12 @@ pub(crate) fn mark_sent(owed: &mut Owed, blocks: &[PlacedBlock])
 }
 
 /// Where a block's write is done, its slave has the block's bytes, and the block isn't owed.
-fn confirm_if(owed: &mut Owed, block: &AwaitedBlock, outcome: Outcome)
-    requires { CanConfirm owed.old (block.now ∷ []) }
-    ensures { (can : CanConfirm owed.old (block.now ∷ [])) → owed.new ≡ register_state_of (known_if can.state block.now outcome can.known) can.state }
+fn confirm_if(owed: &mut Owed, plan: &Plan, block: &AwaitedBlock, outcome: Outcome)
+    requires { CanConfirm owed.old plan.now (block.now ∷ []) }
+    ensures { (can : CanConfirm owed.old plan.now (block.now ∷ [])) → owed.new ≡ register_state_of (known_if can.state block.now outcome can.known) can.state }
 {
     match outcome {
-        Outcome::Done => owed.confirmed(block.place),
+        Outcome::Done => owed.confirmed(plan, block.place),
         Outcome::Inputs {
             task: _,
             datagram: _,
@@ -113,16 +162,15 @@ fn confirm_if(owed: &mut Owed, block: &AwaitedBlock, outcome: Outcome)
     }
 }
 
-/// The same of the blocks of a frame that was answered, each by its own outcome. They are 74 at most, so deep is this
-/// recursion.
-pub(crate) fn confirm(owed: &mut Owed, blocks: &[AwaitedBlock], outcomes: &[Outcome])
-    requires { CanConfirm owed.old blocks.now }
-    ensures { (can : CanConfirm owed.old blocks.now) → owed.new ≡ register_state_of (known_done can.state blocks.now outcomes.now can.known) can.state }
+/// Confirms the blocks of a frame that was answered, each by its own outcome. There are at most 74, which bounds the recursion.
+pub(crate) fn confirm(owed: &mut Owed, plan: &Plan, blocks: &[AwaitedBlock], outcomes: &[Outcome])
+    requires { CanConfirm owed.old plan.now blocks.now }
+    ensures { (can : CanConfirm owed.old plan.now blocks.now) → owed.new ≡ register_state_of (known_done can.state blocks.now outcomes.now can.known) can.state }
 {
     if let Some((block, later)) = blocks.split_first() {
         if let Some((outcome, others)) = outcomes.split_first() {
-            confirm_if(owed, block, *outcome);
-            confirm(owed, later, others);
+            confirm_if(owed, plan, block, *outcome);
+            confirm(owed, plan, later, others);
         }
     }
 }

@@ -1,22 +1,21 @@
 //! An edit: what it would make of the core, and its carrying out.
-ghost use Rattle.std.specs.Prelude.{◌≡◌, ◌≢◌, ◌∷◌, IfErr, IfOk, IfSome, Err, Ok, OnErr, OnOk, vec_capacity};
+ghost use Rattle.std.specs.Prelude.{◌≡◌, ◌≢◌, ◌∷◌, IfErr, IfOk, IfSome, Err, Ok, OnErr, OnOk};
 ghost use Rattle.hc_records.specs.declared.faults.EditFault.TheVariants.{Memory};
 ghost use Rattle.hc_records.specs.Edits.{edited, state_after};
 ghost use Rattle.hc_groups.specs.Edits.{own_fault};
 ghost use Rattle.hc_events.specs.declared.answer.Answer.TheVariants as answer;
 ghost use Rattle.hc_events.specs.Entries.{Edited};
 ghost use Rattle.hc_events.specs.Points.{state_of};
+ghost use Rattle.hc_events.specs.Ready.{waiting_after};
 ghost use Rattle.hc_events.specs.Steps.{edit_answer};
 ghost use Rattle.hc_core.specs.Prepared.{CanBeCarriedOut};
 
 use crate::changed::{changed_tasks, empty_tasks, raise_epochs};
-use crate::declaring::{SlaveRoom, follow, foretell};
+use crate::declaring::{follow, foretell};
 use crate::keeping::Core;
-use crate::prepared::{CoreEdit, add_swap, edit_memory};
+use crate::prepared::{CoreEdit, PlannedEdit, add_swap, edit_memory};
 use hc_events::answer::Answer;
-use hc_events::change::Change;
-use hc_images::moves::Moves;
-use hc_plan::prepared::PreparedEdit;
+use hc_owed::task_set::TaskSet;
 use hc_plan::report::Report;
 use hc_records::edit::Edit;
 use hc_records::faults::EditFault;
@@ -48,23 +47,11 @@ impl Core {
         ensures own { IfSome (own_fault (state_of self.old.history).groups edit.now) (λ fault. result ≡ Err fault) }
         ensures unchanged { self.new ≡ self.old }
     {
-        let prepared = self.plan.prepare(alloc, edit)?;
-        let (moves, slaves, room) = edit_memory(
-            alloc,
-            self.plan.places(),
-            &self.owed,
-            &self.readiness,
-            &self.changes,
-            edit,
-            &prepared.report().swap,
-        )?;
-        let waiting = foretell(&self.owed, &self.readiness, &prepared, &slaves);
+        let planned = self.plan_edit(alloc, edit)?;
+        let waiting = self.will_wait(&planned);
         let core = Snapshot::of(&*self);
         Ok(CoreEdit {
-            edit: prepared,
-            moves,
-            slaves,
-            room,
+            planned,
             will_wait: waiting.bits(),
             core,
         })
@@ -81,44 +68,16 @@ impl Core {
         ensures entries { self.new ≡ record self.old { history = Edited core_edit.edit.report.swap.edit ∷ self.old.history } }
     {
         let CoreEdit {
-            edit,
-            moves,
-            slaves,
-            room,
+            planned,
             will_wait: _,
             core: _,
         } = core_edit;
-        self.carry(edit, moves, slaves, room)
+        self.carry(planned)
     }
 
-    /// Carries out what `plan` worked out for the core as it is, with the core's own memory for it.
-    fn carry(
-        &mut self,
-        edit: PreparedEdit,
-        moves: Moves,
-        slaves: Option<SlaveRoom>,
-        room: Vec<Change>,
-    ) -> Answer
-        requires { CanBeCarriedOut self.old edit moves slaves room.items (vec_capacity room) }
-        ensures answer { result ≡ edit_answer (state_of self.old.history) (state_after (state_of self.old.history) edit.report.swap.edit) }
-        ensures entries { self.new ≡ record self.old { history = Edited edit.report.swap.edit ∷ self.old.history } }
-    {
-        self.awaited.clear();
-        let blocks = follow(&mut self.owed, &mut self.readiness, &edit, slaves);
-        let changed = changed_tasks(self.plan.places(), &edit, blocks);
-        empty_tasks(&mut self.inputs, &mut self.ages, changed);
-        self.outputs.change(moves, &edit.report().swap);
-        let report = self.plan.carry_out(edit);
-        raise_epochs(&mut self.epochs, report.epoch, changed);
-        let answer_given = judged_answer(&report);
-        self.history = self.history.edited(report.swap.edit());
-        add_swap(&mut self.changes, room, report.swap);
-        answer_given
-    }
-
-    /// An edit, prepared and carried out. Otherwise the lowest fault whose condition holds, or `Memory` where a
+    /// An edit, planned and carried out. Otherwise the lowest fault whose condition holds, or `Memory` where a
     /// growth was refused, and nothing changed. A fault that the edit has by itself, of the faults 1 to 11, is
-    /// reported whatever memory does.
+    /// reported whatever memory does. No caller asks which tasks will wait, so that is not worked out.
     pub(crate) fn edit(&mut self, alloc: Global, edit: &Edit) -> Result<Answer, EditFault>
         ensures answer { IfOk result (λ answer_given. answer_given ≡ edit_answer (state_of self.old.history) (state_after (state_of self.old.history) edit.now)) }
         ensures accepted { OnOk result (edited (state_of self.old.history) edit.now ≡ Ok (state_after (state_of self.old.history) edit.now)) }
@@ -126,6 +85,21 @@ impl Core {
         ensures own { IfSome (own_fault (state_of self.old.history).groups edit.now) (λ fault. result ≡ Err fault) }
         ensures entries { OnOk result (self.new ≡ record self.old { history = Edited edit.now ∷ self.old.history }) }
         ensures unchanged { OnErr result (self.new ≡ self.old) }
+    {
+        let planned = self.plan_edit(alloc, edit)?;
+        Ok(self.carry(planned))
+    }
+
+    /// Plans an edit of the core as it is, with all memory for carrying it out; nothing changes. Fails with the lowest fault whose
+    /// condition holds, or with `Memory` if an allocation fails. A fault that the edit has by itself, of the faults 1 to 11, is
+    /// reported whatever memory does.
+    fn plan_edit(&mut self, alloc: Global, edit: &Edit) -> Result<PlannedEdit, EditFault>
+        ensures planned { IfOk result (CanBeCarriedOut self.old) }
+        ensures edit { IfOk result (λ planned. planned.edit.report.swap.edit ≡ edit.now) }
+        ensures accepted { OnOk result (edited (state_of self.old.history) edit.now ≡ Ok (state_after (state_of self.old.history) edit.now)) }
+        ensures refused { IfErr result (λ fault. fault ≢ Memory → edited (state_of self.old.history) edit.now ≡ Err fault) }
+        ensures own { IfSome (own_fault (state_of self.old.history).groups edit.now) (λ fault. result ≡ Err fault) }
+        ensures unchanged { self.new ≡ self.old }
     {
         let prepared = self.plan.prepare(alloc, edit)?;
         let (moves, slaves, room) = edit_memory(
@@ -137,6 +111,44 @@ impl Core {
             edit,
             &prepared.report().swap,
         )?;
-        Ok(self.carry(prepared, moves, slaves, room))
+        Ok(PlannedEdit {
+            edit: prepared,
+            moves,
+            slaves,
+            room,
+        })
+    }
+
+    /// The tasks that will wait once a planned edit is carried out and each slave that came with it is cleared.
+    fn will_wait(&self, planned: &PlannedEdit) -> TaskSet
+        requires { CanBeCarriedOut self.now planned.now }
+        ensures { result.bits ≡ waiting_after self.now.history planned.now.edit.report.swap.edit }
+    {
+        foretell(&self.owed, &self.readiness, &planned.edit, &planned.slaves)
+    }
+
+    /// Carries an edit out that was planned for the core as it is.
+    fn carry(&mut self, planned: PlannedEdit) -> Answer
+        requires { CanBeCarriedOut self.old planned }
+        ensures answer { result ≡ edit_answer (state_of self.old.history) (state_after (state_of self.old.history) planned.edit.report.swap.edit) }
+        ensures entries { self.new ≡ record self.old { history = Edited planned.edit.report.swap.edit ∷ self.old.history } }
+    {
+        let PlannedEdit {
+            edit,
+            moves,
+            slaves,
+            room,
+        } = planned;
+        self.awaited.clear();
+        let blocks = follow(&mut self.owed, &mut self.readiness, &edit, slaves);
+        let changed = changed_tasks(self.plan.places(), &edit, blocks);
+        empty_tasks(&mut self.inputs, &mut self.ages, changed);
+        self.outputs.change(moves, &edit.report().swap);
+        let report = self.plan.carry_out(edit);
+        raise_epochs(&mut self.epochs, report.epoch, changed);
+        let answer_given = judged_answer(&report);
+        self.history = self.history.edited(report.swap.edit());
+        add_swap(&mut self.changes, room, report.swap);
+        answer_given
     }
 }

@@ -35,3 +35,6 @@ mod taking;
 mod text;
 mod waiting;
 pub mod writing;
+
+pub use keeping::Core;
+pub use prepared::CoreEdit;

@@ -13,7 +13,7 @@ impl Core {
         ensures block { result ≡ slice_get (owed_blocks self.now.history) index }
         ensures bytes { IfSome result (λ block. HasBlockBytes block.block) }
     {
-        let found = self.owed.nth(index)?;
+        let found = self.owed.nth(&self.plan, index)?;
         Some(found.block)
     }
 }

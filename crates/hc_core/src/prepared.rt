@@ -19,32 +19,39 @@ use std::alloc::{AllocError, Global};
 use std::marker::Model;
 use std::snapshot::Snapshot;
 
-/// What an edit makes of a core: of its line, of the values of its output variables, and of its changes. It is
-/// good for the core as it was when the edit was prepared: contracts see that (`core`), and `edit`, from which a
-/// caller says what the edit would cost.
+/// An edit with all memory for carrying it out in a core: its part of the line, the output values that move, the slaves
+/// that it declares, and the changes that nobody took with one more.
 #[derive(Drop)]
-pub struct CoreEdit {
+pub(crate) struct PlannedEdit {
     pub(crate) edit: PreparedEdit,
     pub(crate) moves: Moves,
     // for the slaves that the edit declares
     pub(crate) slaves: Option<SlaveRoom>,
     // has room for the changes that nobody took, and for the swap after them
     pub(crate) room: Vec<Change>,
+}
+
+/// What an edit makes of a core: of its line, of the values of its output variables, and of its changes. It is
+/// good for the core as it was when the edit was prepared: contracts see that (`core`), and `edit`, from which a
+/// caller says what the edit would cost.
+#[derive(Drop)]
+pub struct CoreEdit {
+    pub(crate) planned: PlannedEdit,
     // the tasks that will wait, as a number
     pub(crate) will_wait: u8,
     pub(crate) core: Snapshot<Core>,
 }
 
 impl Model for CoreEdit {
-    ghost use Rattle.std.specs.Prelude.{◌≡◌, vec_capacity};
+    ghost use Rattle.std.specs.Prelude.{◌≡◌};
     ghost use Rattle.hc_events.specs.Ready.{waiting_after};
     ghost use Rattle.hc_core.specs.Prepared.{CoreEdit, CanBeCarriedOut};
 
     ghost Value = { CoreEdit };
 
-    ghost view = { λ it. record { core = it.core.value; edit = it.edit } };
+    ghost view = { λ it. record { core = it.core.value; edit = it.planned.edit } };
 
-    ghost invariant = { λ it. CanBeCarriedOut it.core.value it.edit it.moves it.slaves it.room.items (vec_capacity it.room) × (it.will_wait ≡ waiting_after it.core.value.history it.edit.report.swap.edit) };
+    ghost invariant = { λ it. CanBeCarriedOut it.core.value it.planned × (it.will_wait ≡ waiting_after it.core.value.history it.planned.edit.report.swap.edit) };
 }
 
 impl CoreEdit {
@@ -58,7 +65,7 @@ impl CoreEdit {
         ensures edit { result.now ≡ self.now.edit }
         ensures made { result.now.old ≡ state_of self.now.core.history }
     {
-        &self.edit
+        &self.planned.edit
     }
 
     /// The tasks that will wait once the edit is carried out and each slave that came with it is cleared (`cleared`), as a number:

@@ -41,9 +41,9 @@ impl Core {
         Ok(frames)
     }
 
-    /// The same frames in a list that is used again: what it held is dropped, and it is empty where they are refused. A
-    /// list with room for 128 frames, 16 of each of the eight tasks, takes no memory and is never refused for `Memory`
-    /// (this project's profile). The list's room never falls.
+    /// Proposes the frames of tasks as `propose` does, and stores them in a list that is used again. The list is emptied first,
+    /// stays empty if the tasks are refused, and its capacity never falls. With a capacity of 128 frames, 16 for each of the
+    /// eight tasks, it needs no allocation, and the call never fails with `Memory` (this project's profile).
     pub fn propose_into(&self, tasks: &[u8], frames: &mut Vec<Sending>) -> Result<(), CoreFault>
         requires { AreSentTogether tasks.now }
         ensures frames { OnOk result (frames.new.items ≡ proposal self.now.history tasks.now) }
@@ -103,7 +103,7 @@ impl Core {
         Ok(Answer::Sent(texts))
     }
 
-    /// The same, in a list that is used again.
+    /// Sends tasks for `step`, with a list of frames that is used again.
     pub(crate) fn send(&mut self, alloc: Global, tasks: &[u8]) -> Result<Answer, CoreFault>
         requires { AreSentTogether tasks.now }
         ensures answer { IfOk result (λ answer_given. answer_given ≡ answer_to self.old.history (SendsTasks tasks.now)) }

@@ -1,7 +1,7 @@
 //! Serves events.
 ghost use Rattle.std.specs.Prelude.{◌≡◌, All, IfOk, OnErr, map};
 ghost use Rattle.hc_events.specs.Calls.{AreSentTogether, MayAnswer};
-ghost use Rattle.hc_events.specs.Steps.{Arrives, Clears, Edits, Forgets, Posts, PostsSteady, Reads, SendsReady, SendsTasks, SendsWrite, SendsWrites, Unplugs, step_of};
+ghost use Rattle.hc_events.specs.Steps.{Arrives, Clears, Edits, Forgets, Posts, PostsSteady, Reads, SendsFurther, SendsReady, SendsTasks, SendsWrite, SendsWrites, Unplugs, step_of};
 ghost use Rattle.hc_core.specs.Early.{ShowsEarly};
 ghost use Rattle.hc_core.specs.Lines.{IsLineAfter};
 ghost use Rattle.hc_core.specs.LastData.{GoesWithoutThem, IsAsWithoutStale, ReadsShowLastData, StaleLeavesNothing, TasksReadLastData};
@@ -25,7 +25,7 @@ fn answer_of(answer_given: Result<Answer, CoreFault>) -> Answer
     }
 }
 
-/// The same of a post.
+/// Returns the answer to a post, from the result of its call.
 fn answer_of_post(answer_given: Result<(), CoreFault>) -> Answer
     ensures { result ≡ answer_of_post answer_given }
 {
@@ -35,7 +35,7 @@ fn answer_of_post(answer_given: Result<(), CoreFault>) -> Answer
     }
 }
 
-/// The same of forgetting a slave.
+/// Returns the answer to a lost slave, from the result of its call.
 fn answer_of_forget(answer_given: Result<(), CoreFault>) -> Answer
     ensures { result ≡ answer_of_forget answer_given }
 {
@@ -65,7 +65,7 @@ fn answer_of_unplug(answer_given: Result<(), CoreFault>) -> Answer
     }
 }
 
-/// The same of an edit.
+/// Returns the answer to an edit, from the result of its call.
 fn answer_of_edit(answer_given: Result<Answer, EditFault>) -> Answer
     ensures { result ≡ answer_of_edit answer_given }
 {
@@ -140,6 +140,15 @@ impl Core {
         ensures taken { self.new.taken ≡ self.old.taken }
     {
         answer_of(self.write_all(alloc))
+    }
+
+    /// Serves further register writes in one frame.
+    fn serve_further(&mut self, alloc: Global) -> Answer
+        ensures answer { MayAnswer self.old.history SendsFurther result self.new.history }
+        ensures early { ShowsEarly self.old.history SendsFurther result }
+        ensures taken { self.new.taken ≡ self.old.taken }
+    {
+        answer_of(self.write_further(alloc))
     }
 
     /// Serves an arrival.
@@ -222,6 +231,7 @@ impl Core {
             Event::SendReady(tasks) => self.serve_ready(alloc, tasks),
             Event::Cleared(station) => self.serve_clear(station),
             Event::Unplugged(station) => self.serve_unplug(station),
+            Event::SendFurther => self.serve_further(alloc),
         }
     }
 

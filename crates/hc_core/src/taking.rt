@@ -25,8 +25,8 @@ impl Core {
         self.take_changes_into(Vec::new(alloc))
     }
 
-    /// The same, and a list is handed in for the changes to come: what it holds is dropped, and its room is
-    /// kept. Who hands back the list of the taking before grows none anew. It takes no memory.
+    /// Takes the changes as `take_changes` does, and hands in a list for the changes to come: it is emptied, and its capacity
+    /// stays. A caller that hands in the list of the taking before needs no new one. It allocates nothing.
     pub fn take_changes_into(&mut self, spare: Vec<Change>) -> Vec<Change>
         ensures updates { ShowUpdates self.old.taken self.old.history result.items }
         ensures lead { SwapsLeadFrom (state_of self.old.taken) result.items }

@@ -1,22 +1,24 @@
-//! Register writes: the first owed block is sent, or the first ones, as many as a frame holds.
-ghost use Rattle.std.specs.Prelude.{◌≡◌, ◌≢◌, ◌∷◌, Err, IfErr, IfOk, IfSome, None, OnErr, OnOk, Some, length};
+//! Register writes: the first owed block is sent, or the first ones, as many as a frame holds, or the first ones that are not
+//! under way.
+ghost use Rattle.std.specs.Prelude.{◌≡◌, ◌≢◌, ◌==◌, ◌∷◌, Err, IfErr, IfOk, IfSome, None, OnErr, OnOk, Some, length, not};
 ghost use Rattle.hc_records.specs.Lists.{lowest};
-ghost use Rattle.hc_events.specs.Calls.{write_all_into_faults, write_into_faults};
+ghost use Rattle.hc_events.specs.Calls.{further_into_faults, write_all_into_faults, write_into_faults};
 ghost use Rattle.hc_events.specs.Entries.{Wrote};
 ghost use Rattle.hc_events.specs.Owed.{owed_blocks};
 ghost use Rattle.hc_events.specs.Points.{next_serial};
-ghost use Rattle.hc_events.specs.Steps.{SendsWrite, SendsWrites, answer_to, entries_after, write_faults};
+ghost use Rattle.hc_events.specs.Steps.{SendsFurther, SendsWrite, SendsWrites, answer_to, entries_after, further_faults, write_faults};
+ghost use Rattle.hc_events.specs.UnderWay.{further_blocks, is_under_way};
 ghost use Rattle.hc_events.specs.WriteFrames.{writes_text};
 ghost use Rattle.hc_events.specs.declared.faults.CoreFault.TheVariants.{Memory};
-ghost use Rattle.hc_core.specs.Written.{HoldsBlocks, HoldsWrite, HoldsWrites, IsMost, first_blocks, first_into_faults, sent_answer};
+ghost use Rattle.hc_core.specs.Written.{HoldsBlocks, HoldsFurther, HoldsWrite, HoldsWrites, IsMost, first_blocks, first_into_faults, sent_answer};
 
 use crate::areas::mark_areas;
-use crate::choosing::{choose_first, mark_sent};
+use crate::choosing::{choose_first, choose_further, mark_sent, next_further};
 use crate::keeping::Core;
 use hc_events::answer::Answer;
 use hc_events::faults::CoreFault;
 use hc_events::sending::FRAME_BLOCKS;
-use hc_frames::limits::{LEAST_FRAME, SETUP_SERIAL};
+use hc_frames::limits::{LEAST_FRAME, MAX_ETHERCAT, SETUP_SERIAL};
 use hc_records::items::Items;
 use std::alloc::Global;
 
@@ -70,7 +72,7 @@ impl Core {
     {
         self.can_write()?;
         self.writes.clear();
-        choose_first(&mut self.writes, &self.owed, most);
+        choose_first(&mut self.writes, &self.owed, &self.plan, most);
         let size = self.writes.write_into(out, self.serial)?;
         self.history = self.history.wrote(&self.writes);
         self.awaited.write(self.serial, self.writes.blocks());
@@ -83,7 +85,7 @@ impl Core {
         })
     }
 
-    /// The same frame in memory of its own.
+    /// Writes the frame of the first owed blocks into memory of its own.
     fn write_text(&mut self, alloc: Global, most: usize) -> Result<(Items<u8>, usize), CoreFault>
         requires { IsMost most }
         ensures text { IfOk result (λ sent. sent.0 ≡ writes_text (next_serial self.old.history) (first_blocks most self.old.history)) }
@@ -96,7 +98,7 @@ impl Core {
     {
         self.can_write()?;
         self.writes.clear();
-        choose_first(&mut self.writes, &self.owed, most);
+        choose_first(&mut self.writes, &self.owed, &self.plan, most);
         let text = self.writes.text(alloc, self.serial)?;
         self.history = self.history.wrote(&self.writes);
         self.awaited.write(self.serial, self.writes.blocks());
@@ -166,5 +168,109 @@ impl Core {
         ensures untouched { OnErr result (out.new ≡ out.old) }
     {
         self.write_first(FRAME_BLOCKS, out)
+    }
+
+    /// Whether an owed block is not under way.
+    fn has_further(&self) -> bool
+        ensures { result ≡ not (length (further_blocks self.now.history) == 0) }
+    {
+        next_further(&self.owed, &self.plan, &self.awaited, 0).is_some()
+    }
+
+    /// Whether further register blocks can be sent: `NothingOwed` if no block is owed; `UnderWay` if each owed block is under
+    /// way; `SerialsSpent` if no serial is left; and of several the first.
+    fn can_write_further(&self) -> Result<(), CoreFault>
+        ensures accepted { OnOk result (lowest (further_faults self.now.history) ≡ None) }
+        ensures refused { IfErr result (λ fault. lowest (further_faults self.now.history) ≡ Some fault) }
+    {
+        if self.owed() == 0 {
+            return Err(CoreFault::NothingOwed);
+        }
+        if !self.has_further() {
+            return Err(CoreFault::UnderWay);
+        }
+        if self.serial >= SETUP_SERIAL {
+            return Err(CoreFault::SerialsSpent);
+        }
+        Ok(())
+    }
+
+    /// The first owed blocks that are not under way are sent in one frame with the next serial, in the order in which they are
+    /// owed: as many as the frame holds, whatever the length of `out`. A block is under way as long as the answer to its last
+    /// write may still come; `write_all_into` sends it again. The frame is put at the front of `out`; its size and the number
+    /// of its blocks are returned. Earlier frames stay under way, and each answer counts for its own blocks; exception: if a
+    /// slave was forgotten since the last write, no answer to an earlier frame counts any more (ETG.1000.4, 5.3 and 5.4; this
+    /// project's profile).
+    ///
+    /// - `NothingOwed`: no block is owed.
+    /// - `UnderWay`: each owed block is under way.
+    /// - `SerialsSpent`: no serial is left.
+    /// - `Room`: `out` is shorter than the frame; the fault has the size needed.
+    /// - `Memory`: an allocation failed.
+    ///
+    /// Of several it is the first of these. After a fault nothing has changed, `out` neither. It allocates only if more further
+    /// frames are under way than ever before, and more than two.
+    pub fn write_further_into(
+        &mut self,
+        alloc: Global,
+        out: &mut [u8],
+    ) -> Result<SentWrites, CoreFault>
+        ensures written { IfOk result (HoldsFurther self.old.history out.old out.new) }
+        ensures accepted { OnOk result (lowest (further_into_faults self.old.history (length out.old)) ≡ None) }
+        ensures entries { OnOk result (self.new ≡ record self.old { history = entries_after self.old.history SendsFurther }) }
+        ensures refused { IfErr result (λ fault. fault ≢ Memory → lowest (further_into_faults self.old.history (length out.old)) ≡ Some fault) }
+        ensures early { IfSome (lowest (further_into_faults self.old.history (length out.old))) (λ fault. result ≡ Err fault) }
+        ensures unchanged { OnErr result (self.new ≡ self.old) }
+        ensures untouched { OnErr result (out.new ≡ out.old) }
+    {
+        self.can_write_further()?;
+        self.writes.clear();
+        choose_further(
+            &mut self.writes,
+            &self.owed,
+            &self.plan,
+            &self.awaited,
+            0,
+            FRAME_BLOCKS,
+        );
+        let size = self.writes.size();
+        if out.len() < size {
+            return Err(CoreFault::Room(size));
+        }
+        self.awaited
+            .write_further(alloc, self.serial, self.writes.blocks())?;
+        self.writes.write(&mut out[..size], self.serial);
+        self.history = self.history.wrote(&self.writes);
+        mark_sent(&mut self.owed, self.writes.blocks());
+        mark_areas(&mut self.readiness, self.writes.blocks());
+        self.serial += 1;
+        Ok(SentWrites {
+            size,
+            blocks: self.writes.blocks().len(),
+        })
+    }
+
+    /// Further owed blocks are sent in one frame, as `write_further_into` does, in memory of its own: refused as that is, but
+    /// that the frame always has room.
+    pub(crate) fn write_further(&mut self, alloc: Global) -> Result<Answer, CoreFault>
+        ensures answer { IfOk result (λ answer_given. answer_given ≡ answer_to self.old.history SendsFurther) }
+        ensures entries { OnOk result (self.new ≡ record self.old { history = entries_after self.old.history SendsFurther }) }
+        ensures refused { IfErr result (λ fault. fault ≢ Memory → lowest (further_faults self.old.history) ≡ Some fault) }
+        ensures early { IfSome (lowest (further_faults self.old.history)) (λ fault. result ≡ Err fault) }
+        ensures unchanged { OnErr result (self.new ≡ self.old) }
+    {
+        self.can_write_further()?;
+        let mut text = Vec::from_elem(alloc, 0, 14 + usize::from(MAX_ETHERCAT))?;
+        let sent = self.write_further_into(alloc, &mut text)?;
+        text.truncate(sent.size);
+        Ok(sent_answer(Items::of(text), sent.blocks))
+    }
+
+    /// Whether the block of the slave with this station address and a number is under way: the answer to its last write may
+    /// still come. It takes the time of all blocks that are under way, and no memory.
+    pub fn is_under_way(&self, station: u16, number: u8) -> bool
+        ensures { result ≡ is_under_way self.now.history station number }
+    {
+        self.awaited.is_newest_awaited(station, number)
     }
 }

@@ -1,4 +1,4 @@
--- Two lines that differ in a change, and tasks that are turned from the one to the other.
+-- Two lines that differ by a change, and tasks that are turned from the one to the other.
 use Rattle.std.specs.Prelude.{◌≡◌, ℕ, ◌+◌, ◌<◌, List, [], ◌++◌, length, slice_index_or, None, false}
 use Rattle.hc_records.specs.declared.keys.Key.{Key}
 use Rattle.hc_records.specs.declared.limits.TheConstants.{TASKS}
@@ -25,13 +25,13 @@ pub record HasLines (change : LineChange) : Type 0 where
   pub new : AreaLine
   pub lines : AreLines change old new
 
--- so many tasks from one on are kept of the old line, and none of them needs more than 16 datagrams
+-- the tasks from one on, `count` of them, are those of the old line, and none of them needs more than 16 datagrams
 pub record AppliesWidths (count task : ℕ) (unchanged : List TaskCuts) (change : LineChange) (old new : AreaLine) : Type 0 where
   pub lines : AreLines change old new
   pub are_placed : unchanged ≡ task_cuts_from count task old
   pub fits : over_limit_from count task old ≡ None
 
--- the same, with the number of tasks taken from their list
+-- the tasks of a list, from one on, are those of the old line, and none of them needs more than 16 datagrams
 abbrev pub Applies : ℕ → List TaskCuts → LineChange → AreaLine → AreaLine → Type 0
 Applies task unchanged change old new = AppliesWidths (length unchanged) task unchanged change old new
 
@@ -41,15 +41,15 @@ pub record CanApplyWidths (count task : ℕ) (unchanged : List TaskCuts) (change
   pub new : AreaLine
   pub apply_widths : AppliesWidths count task unchanged change old new
 
--- the same of one task
+-- a task of the old line, and the two lines
 
--- a task is kept of the old one of two such lines, and needs at most 16 datagrams in it
+-- a task is that of the old of two such lines, and needs at most 16 datagrams in it
 pub record AppliesTaskWidths (task : ℕ) (unchanged : TaskCuts) (change : LineChange) (old new : AreaLine) : Type 0 where
   pub lines : AreLines change old new
   pub is_placed : unchanged ≡ both_task_cuts task old
   pub fits : is_over_limit task old ≡ false
 
--- there are two such lines, and a task is kept so
+-- there are two such lines, and a task is that of the old one
 pub record CanApplyTaskWidths (task : ℕ) (unchanged : TaskCuts) (change : LineChange) : Type 0 where
   pub old : AreaLine
   pub new : AreaLine
@@ -62,11 +62,11 @@ pub record HasTree (task : ℕ) (tree : Tree) (change : LineChange) : Type 0 whe
   pub lines : AreLines change old new
   pub holds : tree ≡ tree_by task old
 
--- boundaries, but END, are those of the eight tasks of a line
+-- boundaries without END are those of the eight tasks of a line
 abbrev pub AreStartsOf : AreaLine → List (List Key) → Type 0
 AreStartsOf line starts = (task : ℕ) → task < TASKS → slice_index_or starts task [] ≡ starts_by task line
 
--- so many tasks from one on are kept of the old line, and the boundaries of the new one's are known
+-- the tasks from one on, `count` of them, are those of the old line, and the boundaries of the new line's are known
 pub record RestoresWidths (count task : ℕ) (unchanged : List TaskCuts) (change : LineChange) (starts : List (List Key)) (old new : AreaLine) : Type 0 where
   pub lines : AreLines change old new
   pub are_placed : unchanged ≡ task_cuts_from count task old

@@ -1,4 +1,4 @@
--- The areas of the line by the ranks of their slaves, and the widths that they have in a task.
+-- The areas of the line by the ranks of their slaves, and their widths in a task.
 use Rattle.std.specs.Prelude.{ℕ, ◌+◌, ◌==◌, ◌&&◌, if◌then◌else◌, List, [], ◌∷◌, ◌++◌, map, slice_get, slice_index_or, Option, Some, None}
 use Rattle.std.specs.List.{flat_map}
 use Rattle.hc_records.specs.declared.records.Dir.{Dir}
@@ -14,15 +14,15 @@ use Rattle.hc_records.specs.TaskList.{Keyed, belongs}
 abbrev pub AreaLine : Type 0
 AreaLine = List (List Area)
 
--- the areas of each slave of a declared group; none where the group isn't present
+-- the areas of each slave of a declared group; none if the group is not present
 abbrev pub present_areas : Declared → AreaLine
 present_areas declared = map (λ slave. if declared.present then slave.areas else []) declared.group.slaves
 
--- those of all declared slaves: the first slave has rank 1
+-- the areas of all declared slaves: the first slave has rank 1
 abbrev pub areas_by_rank : List Declared → AreaLine
 areas_by_rank groups = flat_map present_areas groups
 
--- the width that an area has in a task, under a key of a direction
+-- the width of an area in a task, under a key of a direction
 abbrev pub own_width : ℕ → Dir → Option Area → ℕ
 own_width task dir None = 0
 own_width task dir (Some area) = if (area.task == task) && same_dir area.dir dir then width area else 0
@@ -39,11 +39,11 @@ area_in slaves key = slice_get (areas_of_rank slaves key.rank) key.area
 abbrev pub slave_width : ℕ → List Area → Key → ℕ
 slave_width task areas key = own_width task key.dir (slice_get areas key.area)
 
--- and by those of all slaves
+-- the width of a key in a task, by the areas of all slaves
 abbrev pub width_at : ℕ → AreaLine → Key → ℕ
 width_at task slaves key = slave_width task (areas_of_rank slaves key.rank) key
 
--- the areas of a slave that a task has in a direction, from a place in its record on, with their keys and widths
+-- the areas of a slave that a task has in a direction, from an index in its record on, with their keys and widths
 abbrev pub area_list : ℕ → Dir → ℕ → ℕ → List Area → List Keyed
 area_list task dir rank index [] = []
 area_list task dir rank index (area ∷ areas) =
@@ -51,7 +51,7 @@ area_list task dir rank index (area ∷ areas) =
     then (record { dir = dir; rank = rank; area = index }, width area) ∷ area_list task dir rank (index + 1) areas
     else area_list task dir rank (index + 1) areas
 
--- those of slaves in a row, from a rank on
+-- the areas of slaves in a row that a task has in a direction, from a rank on, with their keys and widths
 abbrev pub rank_list : ℕ → Dir → ℕ → AreaLine → List Keyed
 rank_list task dir rank [] = []
 rank_list task dir rank (areas ∷ slaves) = area_list task dir rank 0 areas ++ rank_list task dir (rank + 1) slaves

@@ -1,4 +1,4 @@
--- How far a datagram of a task is filled before a key.
+-- Cursors: how far a datagram of a task is filled before a key.
 use Rattle.std.specs.Prelude.{◌≡◌, ◌<◌, ◌≤◌, true, List, length, slice_index_or}
 use Rattle.hc_records.specs.declared.keys.Key.{Key}
 use Rattle.hc_records.specs.declared.keys.TheConstants.Key.{END}
@@ -14,7 +14,8 @@ use Rattle.hc_cuts.specs.declared.cursor.Cursor.{Cursor}
 abbrev pub unfilled : Filled
 unfilled = record { bit = 0; last = Out }
 
--- by the keys where a task's datagrams begin and by its areas: the cursor's key isn't before its datagram, and the datagram is filled by the areas from its first key on that come before the cursor's key
+-- a cursor of a task, by the keys at which the task's datagrams begin and by its areas: the cursor's key is not before its
+-- datagram, and the datagram is filled by the areas from its first key on that come before the cursor's key
 pub record IsCursorOf (starts : List Key) (list : List Keyed) (cursor : Cursor) : Type 0 where
   pub within : cursor.datagram < length starts
   pub begun : is_within (slice_index_or starts cursor.datagram END) cursor.key ≡ true

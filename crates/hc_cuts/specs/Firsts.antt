@@ -1,4 +1,4 @@
--- The keys where the datagrams of a task's list begin.
+-- The keys at which the datagrams of a task's list begin.
 use Rattle.std.specs.Prelude.{◌<◌, List, [], ◌∷◌}
 use Rattle.hc_records.specs.declared.limits.TheConstants.{MOST_DATAGRAMS}
 use Rattle.hc_records.specs.declared.keys.Key.{Key}

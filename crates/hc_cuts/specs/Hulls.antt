@@ -19,7 +19,7 @@ pub record IsHullOf (test : Key → Bool) (dir : Dir) (interval : Interval) : Ty
   pub least : (key : Key) → IsOf test dir key → is_within interval.0 key ≡ true
   pub greatest : (key : Key) → IsOf test dir key → is_within key interval.1 ≡ true
 
--- none where no key is such a one
+-- there is no hull if no key passes the test
 abbrev pub IsHull : (Key → Bool) → Dir → Option Interval → Type 0
 IsHull test dir None = (key : Key) → key.dir ≡ dir → test key ≡ false
 IsHull test dir (Some interval) = IsHullOf test dir interval

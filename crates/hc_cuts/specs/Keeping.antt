@@ -1,4 +1,4 @@
--- Which datagrams of a task an edit keeps.
+-- The datagrams of a task that an edit leaves as they are.
 use Rattle.std.specs.Prelude.{ℕ, ◌+◌, ◌&&◌, not, Bool, false, List, [], ◌∷◌, ◌++◌, slice_get, slice_index_or, ◌≡◌, true}
 use Rattle.std.specs.Option.{option_map_or}
 use Rattle.hc_records.specs.declared.keys.Key.{Key}
@@ -15,17 +15,18 @@ use Rattle.hc_cuts.specs.Hulls.{AreHulls}
 abbrev pub begins_at : List Keyed → ℕ → Key → Bool
 begins_at list datagram key = option_map_or (same_key key) (slice_get (boundaries list) datagram) false
 
--- a datagram of the new list is kept: its span is settled, and the old list's datagram with its number began at the same key
+-- a datagram of the new list stays: its span is settled, and the old list's datagram with its number began at the same key
 abbrev pub is_unchanged : List Keyed → List Keyed → ℕ → Bool
 is_unchanged old new datagram =
     option_map_or (λ span. is_settled old new span && begins_at old datagram span.0) (slice_get (spans (boundaries new)) datagram) false
 
--- its areas are where they were up to a key, the key's own among them: the old list's datagram with its number began at the same key, and the keys from there up to this one are settled
+-- the areas of a datagram stay at their places up to a key, the key's own included: the old list's datagram with its number
+-- began at the same key, and the keys from there up to this one are settled
 abbrev pub is_unchanged_up_to : List Keyed → List Keyed → ℕ → Key → Bool
 is_unchanged_up_to old new datagram key =
     option_map_or (λ span. is_settled old new (span.0, key) && begins_at old datagram span.0) (slice_get (spans (boundaries new)) datagram) false
 
--- the same by the keys where datagrams begin and by hulls
+-- the datagrams that stay, by the keys at which datagrams begin and by hulls
 
 -- two lists of a task: the boundaries of each without END, and the hulls of the keys whose widths differ
 pub record AreKnownOfTask (old new : List Keyed) (old_starts new_starts : List Key) (hulls : Hulls) : Type 0 where
@@ -34,15 +35,17 @@ pub record AreKnownOfTask (old new : List Keyed) (old_starts new_starts : List K
   pub new_boundaries : new_starts ++ END ∷ [] ≡ boundaries new
   pub differ : AreHulls (is_touched old new) hulls
 
--- a test of keys before END is passed by exactly those before a limit
+-- exactly the keys before a limit, among those before END, pass a test
 abbrev pub HoldsBefore : Key → (Key → Bool) → Type 0
 HoldsBefore limit holds = (key : Key) → is_before key END ≡ true → is_before key limit ≡ holds key
 
--- the interval from a key to the one where, by these keys, the datagram after a number, from 0, begins; to END where there is none
+-- the interval from a key to the one at which, by these keys, the datagram after a number, from 0, begins; to END if there is
+-- none
 abbrev pub span_from : List Key → ℕ → Key → Interval
 span_from starts datagram start = (start, slice_index_or (starts ++ END ∷ []) (datagram + 1) END)
 
--- by both lists of keys the datagram with this number, from 0, begins at the same key, and the span from there to the next new key, or END, meets neither hull; false where a list ends before
+-- by both lists of keys the datagram with this number, from 0, begins at the same key, and the span from there to the next new
+-- key, or END, meets neither hull; false if a list ends before
 abbrev pub is_unchanged_by : Hulls → List Key → List Key → ℕ → Bool
 is_unchanged_by hulls old_starts new_starts datagram =
     option_map_or
@@ -50,7 +53,8 @@ is_unchanged_by hulls old_starts new_starts datagram =
     (slice_get new_starts datagram)
     false
 
--- by both lists of keys the datagram with this number, from 0, begins at the same key, and the interval from there up to this key, both included, meets neither hull; false where a list ends before
+-- by both lists of keys the datagram with this number, from 0, begins at the same key, and the interval from there up to this
+-- key, both included, meets neither hull; false if a list ends before
 abbrev pub is_unchanged_up_to_by : Hulls → List Key → List Key → ℕ → Key → Bool
 is_unchanged_up_to_by hulls old_starts new_starts datagram key =
     option_map_or

@@ -1,4 +1,4 @@
--- What differs between two lines.
+-- The difference between two lines.
 use Rattle.std.specs.Prelude.{ℕ, ◌+◌, ◌&&◌, not, nat_lt, Bool, if◌then◌else◌, List, [], length, map}
 use Rattle.hc_records.specs.declared.records.Area.{Area}
 use Rattle.hc_records.specs.declared.records.Slave.{Slave}
@@ -9,7 +9,7 @@ pub record LineChange : Type 0 where
   pub areas_before : List (List Area)
   pub areas_after : List (List Area)
 
--- the change that leads back
+-- the change in the other direction
 abbrev pub back : LineChange → LineChange
 back change = record { first = change.first; areas_before = change.areas_after; areas_after = change.areas_before }
 

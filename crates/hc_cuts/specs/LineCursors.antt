@@ -5,7 +5,7 @@ use Rattle.hc_cuts.specs.declared.cursor.Cursor.{Cursor}
 use Rattle.hc_cuts.specs.Cursors.{IsCursorOf}
 use Rattle.hc_cuts.specs.Starts.{TaskCuts}
 
--- each task has one that is in it; the lists are as long as there are tasks, so no other value stands for one
+-- each task has a cursor that is in it; the lists are as long as there are tasks, so no other value stands for one
 abbrev pub AreInTasks : List TaskCuts → List Cursor → Type 0
 AreInTasks tasks cursors =
     (task : ℕ) (unchanged : TaskCuts) (cursor : Cursor) → task < TASKS

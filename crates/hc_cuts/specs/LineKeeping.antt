@@ -1,4 +1,4 @@
--- What is known of the tasks of a line when they are turned: their boundaries before, and the hulls of their touched keys.
+-- Facts of the tasks of a line when they are turned: their boundaries before, and the hulls of their touched keys.
 use Rattle.std.specs.Prelude.{ℕ, ◌<◌, List, slice_index_or, ◌≡◌}
 use Rattle.hc_records.specs.declared.keys.Key.{Key}
 use Rattle.hc_records.specs.declared.limits.TheConstants.{TASKS}
@@ -19,12 +19,12 @@ pub record Before : Type 0 where
 abbrev pub AreLineHulls : AreaLine → AreaLine → List Hulls → Type 0
 AreLineHulls old new hulls = (task : ℕ) → task < TASKS → AreHulls (is_touched (list_by task old) (list_by task new)) (slice_index_or hulls task no_hulls)
 
--- those of the eight tasks of an old line, and the hulls of the keys whose widths differ in a new one
+-- the boundaries of the eight tasks of an old line, and the hulls of the keys whose widths differ in a new one
 pub record IsKnownBefore (old new : AreaLine) (before : Before) : Type 0 where
   pub starts : AreStartsOf old before.starts
   pub hulls : AreLineHulls old new before.hulls
 
--- the same, and the tasks of the new line as they are after the change
+-- the boundaries and hulls of two such lines, and the tasks of the new line after the change
 pub record AreTasksOfEdit (old new : AreaLine) (before : Before) (cuts : List TaskCuts) : Type 0 where
   pub line : IsProjectLine new
   pub known : IsKnownBefore old new before

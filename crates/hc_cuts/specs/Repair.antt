@@ -1,4 +1,4 @@
--- What a repair of a task's boundaries takes of the areas before, and what it counts.
+-- The repair of a task's boundaries: its premises on the areas before, and its count.
 use Rattle.std.specs.Prelude.{◌≡◌, ℕ, ◌||◌, Bool, false, if◌then◌else◌, List, [], ◌∷◌, ◌++◌, drop, Option, Some, None, slice_index_or}
 use Rattle.hc_records.specs.declared.keys.Key.{Key}
 use Rattle.hc_records.specs.declared.keys.TheConstants.Key.{START, END}
@@ -30,16 +30,17 @@ pub record IsBefore (starts : List Key) (hulls : Hulls) (present before : List K
   pub keys : starts ++ END ∷ [] ≡ boundaries before
   pub differ : AreHulls (is_touched before present) hulls
 
--- the spans between new boundaries that aren't settled, by the old boundaries and by these hulls
+-- the spans between new boundaries that are not settled, by the old boundaries and by these hulls
 abbrev pub unsettled_between : Hulls → List Key → List Key → ℕ
 unsettled_between hulls old new = unsettled_by (drop 1 old) hulls.outputs hulls.inputs START (drop 1 new)
 
--- the boundary after a key, of those where datagrams begin and END; none where no datagram begins at the key
+-- the boundary after a key, among the keys at which datagrams begin and END; none if no datagram begins at the key
 abbrev pub following : Key → List Key → Option Key
 following from [] = None
 following from (key ∷ keys) = if same_key from key then Some (slice_index_or keys 0 END) else following from keys
 
--- the hulls of the keys whose widths differ between two lists: these differ inside them alone, and the spans that aren't settled by them are those that the edit leaves so
+-- by the hulls of the keys whose widths differ between two lists, these differ only inside the hulls, and the spans that are
+-- not settled are those that the edit leaves unsettled
 pub record HoldTheTouched (hulls : Hulls) (old new : List Keyed) : Type 0 where
   pub differ : DifferInside hulls old new
   pub count :

@@ -1,11 +1,11 @@
--- The tasks of a line that takes in slaves after its own.
+-- The tasks of a line that gets more slaves after its own.
 use Rattle.std.specs.Prelude.{◌≡◌, ℕ, ◌≤◌, List, [], ◌++◌, length, replicate}
 use Rattle.hc_bitsum.specs.Tree.{HasRoom}
 use Rattle.hc_cuts.specs.Starts.{TaskCuts}
 use Rattle.hc_cuts.specs.TaskCuts.{line_cuts}
 use Rattle.hc_cuts.specs.Areas.{AreaLine}
 
--- the line with so many slaves after its own that have no areas, as those of a group that isn't present
+-- the line with `count` more slaves after its own, which have no areas, as those of a group that is not present
 abbrev pub with_absent : ℕ → AreaLine → AreaLine
 with_absent count line = line ++ replicate count []
 
@@ -15,12 +15,13 @@ pub record AreOfFewer (tasks : List TaskCuts) (slaves : ℕ) : Type 0 where
   pub are_placed : tasks ≡ line_cuts line
   pub few : length line ≤ slaves
 
--- so they are, and trees of as many slaves as the line has have room for so many
+-- the tasks are those of a line of at most this many slaves, and trees of as many slaves as the line has have the capacity for
+-- this many
 pub record TreesCanAdmit (tasks : List TaskCuts) (slaves : ℕ) : Type 0 where
   pub fewer : AreOfFewer tasks slaves
   pub room : HasRoom (length fewer.line) slaves
 
--- a task has at most so many slaves, and its tree has room for them
+-- a task has at most this many slaves, and its tree has the capacity for them
 pub record HasUnchangedRoom (slaves : ℕ) (unchanged : TaskCuts) : Type 0 where
   pub few : unchanged.tree.slaves ≤ slaves
   pub room : HasRoom unchanged.tree.slaves slaves

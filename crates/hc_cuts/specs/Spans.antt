@@ -1,4 +1,4 @@
--- The spans of a task that aren't settled, by the keys where its later datagrams begin.
+-- The spans of a task that are not settled, by the keys at which its later datagrams begin.
 use Rattle.std.specs.Prelude.{ℕ, ◌&&◌, ◌||◌, not, Bool, List, [], ◌∷◌, ◌++◌, length, filter, Option}
 use Rattle.std.specs.List.{list_any}
 use Rattle.hc_records.specs.declared.keys.Key.{Key}
@@ -11,7 +11,7 @@ abbrev pub is_settled_by : List Key → Option Interval → Option Interval → 
 is_settled_by old_later outputs inputs span =
     list_any (same_key span.0) (START ∷ (old_later ++ END ∷ [])) && not (meets_hull outputs span || meets_hull inputs span)
 
--- the spans from a key on, by the later keys and END, that aren't settled
+-- the spans from a key on, by the later keys and END, that are not settled
 abbrev pub unsettled_by : List Key → Option Interval → Option Interval → Key → List Key → ℕ
 unsettled_by old_later outputs inputs first later =
     length (filter (λ span. not (is_settled_by old_later outputs inputs span)) (spans (first ∷ (later ++ END ∷ []))))

@@ -7,11 +7,11 @@ use Rattle.hc_records.specs.Packing.{Front, Placed}
 use Rattle.hc_records.specs.SpanLaws.{areas_from, places_in_span}
 use Rattle.hc_bitsum.specs.declared.filled.Filled.{Filled}
 
--- the datagram with a number, before an area is in it
+-- the datagram with a number, before any area is in it
 abbrev pub blank_datagram : ℕ → Front
 blank_datagram datagram = record { datagram = datagram; bit = 0; last = Out }
 
--- and filled so far
+-- the datagram with a number, filled so far
 abbrev pub filled_datagram : ℕ → Filled → Front
 filled_datagram datagram filled = record { datagram = datagram; bit = filled.bit; last = filled.last }
 

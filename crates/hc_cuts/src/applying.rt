@@ -1,7 +1,6 @@
-//! The tasks of a line turned into those of another: widths that differ are set, and the boundaries of a task
-//! where one does are repaired. Where a task would need too many datagrams, it and those before it are put
-//! back, and those after it aren't looked at. Where the boundaries are known, as they are on the way back, they
-//! are put in place of a repair.
+//! Tasks of a line that are turned into those of another: the widths that differ are set, and the boundaries of a task with
+//! such a width are repaired. If a task would need too many datagrams, it and those before it are restored, and those after it
+//! are not read. If the boundaries are known, as on the way back, they replace a repair.
 ghost use Rattle.std.specs.Prelude.{◌≡◌, ◌+◌, ◌*◌, ◌≤◌, IfErr, IfOk, None, OnErr, OnOk, Some, false, length, true};
 ghost use Rattle.hc_records.specs.declared.limits.TheConstants.{MOST_DATAGRAMS};
 ghost use Rattle.hc_cuts.specs.Starts.{most_read};
@@ -22,9 +21,9 @@ use hc_records::keys::Key;
 use hc_records::task::Task;
 use std::sync::ledger::Ledger;
 
-/// Turns a task, and answers how many of its spans aren't settled. `TooManyDatagrams` where it would need
-/// more than 16; it is then as it was. Each of these spans takes 1 to 104 steps, and nothing else takes any;
-/// a refusal takes at most 16 times 104.
+/// Turns a task, and returns how many of its spans are not settled. Each of these spans takes 1 to 104 steps, and nothing else
+/// takes any; a refusal takes at most 16 times 104. Fails with `TooManyDatagrams` if it would need more than 16; then it is
+/// unchanged.
 fn apply_in_task<L: Ledger>(
     cuts: &mut Cuts,
     task: u8,
@@ -66,8 +65,8 @@ fn restore_in_task(cuts: &mut Cuts, task: u8, change: &LineChange, starts: Array
     cuts.put_starts(starts);
 }
 
-/// Applies the widths of tasks in a row, from a number on, and answers how many of their spans aren't
-/// settled. Otherwise the first of them that would need more than 16 datagrams; they are then as they were.
+/// Turns tasks in a row, from a number on, and returns how many of their spans are not settled. Fails with the first of them
+/// that would need more than 16 datagrams; then they are unchanged.
 pub(crate) fn apply_in_tasks<L: Ledger>(
     tasks: &mut [Cuts],
     task: u8,

@@ -7,8 +7,7 @@ use hc_records::records::{Area, Declared};
 use std::alloc::{AllocError, Global};
 use std::marker::Model;
 
-/// The areas that a declared slave has in the line, in record order; none where its group isn't
-/// present.
+/// Returns the areas of a declared slave in the line, in record order; none if its group is not present.
 #[derive(Debug, Drop)]
 pub struct SlaveAreas<'a> {
     areas: &'a [Area],
@@ -34,7 +33,7 @@ impl<'a> SlaveAreas<'a> {
     }
 }
 
-/// Adds the areas of each slave of a declared group.
+/// Appends the areas of each slave of a declared group.
 fn add_group<'a>(slaves: &mut Vec<SlaveAreas<'a>>, declared: &'a Declared) -> Result<(), AllocError>
     ensures { OnOk result (slaves.new.items ≡ slaves.old.items ++ present_areas declared.now) }
 {
@@ -49,8 +48,7 @@ fn add_group<'a>(slaves: &mut Vec<SlaveAreas<'a>>, declared: &'a Declared) -> Re
     Ok(())
 }
 
-/// The areas of each declared slave in the line; the first slave has rank 1. `AllocError` where a growth
-/// was refused.
+/// Returns the areas of each declared slave in the line; the first slave has rank 1. `AllocError` if an allocation fails.
 pub fn areas_by_rank<'a>(
     alloc: Global,
     groups: &'a [Declared],
@@ -64,8 +62,8 @@ pub fn areas_by_rank<'a>(
     Ok(slaves)
 }
 
-/// The area that a key names: the one with its place in the record of the present slave with its rank;
-/// none where there is no such area. It takes no memory.
+/// Returns the area that a key names: the one with its index in the record of the present slave with its rank. `None` if there
+/// is no such area. It allocates nothing.
 pub fn find_area<'a>(slaves: &[SlaveAreas<'a>], key: Key) -> Option<&'a Area>
     ensures { MatchOption result (area_in slaves.now key ≡ None) (λ area. area_in slaves.now key ≡ Some area.now) }
 {

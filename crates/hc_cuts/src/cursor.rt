@@ -1,5 +1,5 @@
-//! How far a datagram of a task is filled before a key: where many areas of a task are placed in the order of
-//! its list, each fill goes on from the one before it.
+//! Cursors: how far a datagram of a task is filled before a key. If many areas of a task are placed in the order of its list,
+//! each fill continues from the one before it.
 ghost use Rattle.std.specs.Prelude.{◌≡◌, ◌+◌, ◌<◌, length, slice_index_or, true};
 ghost use Rattle.hc_records.specs.declared.keys.TheConstants.Key.{END};
 ghost use Rattle.hc_records.specs.Keys.{is_before, is_within};
@@ -11,8 +11,8 @@ use hc_bitsum::tree::SumTree;
 use hc_records::keys::Key;
 use hc_records::records::Dir;
 
-/// The number of the datagram that carries a key, by the keys where datagrams begin: the last of them
-/// that doesn't come after it. Half of those that are left go in each step.
+/// Returns the number of the datagram that carries a key, from the keys at which datagrams begin: the last of them that does
+/// not come after it. Each step halves the rest.
 fn carrier(starts: &[Key], key: Key) -> usize
     requires some { 0 < length starts.now }
     requires first { is_within (slice_index_or starts.now 0 END) key ≡ true }
@@ -34,8 +34,8 @@ fn carrier(starts: &[Key], key: Key) -> usize
     begun
 }
 
-/// A key, the number of the datagram that carries it, and how far that is filled before the key. What it
-/// says is true of one task, as long as the task's areas and boundaries stay as they are.
+/// A key, the number of the datagram that carries it, and how far that is filled before the key. It holds for one task, as long
+/// as the task's areas and boundaries stay as they are.
 #[derive(Clone, Copy)]
 pub struct Cursor {
     key: Key,
@@ -54,14 +54,14 @@ impl Cursor {
     ghost use Rattle.hc_cuts.specs.Cursors.{IsCursorOf};
     ghost use Rattle.hc_cuts.specs.Place.{place_of};
 
-    /// Before the first area of a task, any task. It takes no memory.
+    /// Returns a cursor before the first area of any task. It allocates nothing.
     pub fn start() -> Cursor
         ensures { (starts : List Key) → (list : List Keyed) → starts ++ END ∷ [] ≡ boundaries list → IsCursorOf starts list result }
     {
         Cursor::at_front(Key::START, 0)
     }
 
-    /// At the first key of the datagram with a number.
+    /// Returns a cursor at the first key of the datagram with a number.
     fn at_front(key: Key, datagram: u16) -> Cursor
         ensures is_placed { (starts : List Key) → (list : List Keyed) → datagram < length starts → slice_index_or starts datagram END ≡ key → IsCursorOf starts list result }
         ensures key { result.key ≡ key }
@@ -77,7 +77,7 @@ impl Cursor {
         }
     }
 
-    /// Whether a key lies in the cursor's datagram, at the cursor's key or after it.
+    /// Returns whether a key lies in the cursor's datagram, at the cursor's key or after it.
     fn leads_to(self, starts: &[Key], key: Key) -> bool
         requires { self.datagram < length starts.now }
         ensures low { IsTrue result → is_within self.key key ≡ true }
@@ -87,8 +87,8 @@ impl Cursor {
         !key.is_before(self.key) && key.is_before(end)
     }
 
-    /// A cursor where the filling goes on to a key: this one where it leads there, else one at the
-    /// front of the datagram that carries the key.
+    /// Returns a cursor from which the filling continues to a key: this one if it leads there, else one at the front of the
+    /// datagram that carries the key.
     fn before(self, starts: &[Key], key: Key) -> Cursor
         requires within { self.datagram < length starts.now }
         requires few { length starts.now ≤ MOST_DATAGRAMS }
@@ -104,8 +104,8 @@ impl Cursor {
         Cursor::at_front(starts[datagram], datagram as u16)
     }
 
-    /// The place of the area of a task with a key, any key, by the keys where the task's datagrams begin;
-    /// none where it has no such area, and the cursor stays. Otherwise it then is at the key.
+    /// Returns the place of the area of a task with a key, by the keys at which the task's datagrams begin, and moves to the
+    /// key. `None` if the task has no such area; then the cursor stays.
     #[inline(always)]
     pub(crate) fn place(&mut self, task: &SumTree, starts: &[Key], key: Key) -> Option<Placed>
         requires holds { HoldsTaskList task.now }

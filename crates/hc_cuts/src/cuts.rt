@@ -1,4 +1,4 @@
-//! The areas of a task and the keys where its datagrams begin, kept together.
+//! The areas of a task and the keys at which its datagrams begin.
 ghost use Rattle.std.specs.Prelude.{◌≡◌, ◌+◌, ◌*◌, ◌<◌, ◌≤◌, ◌∷◌, ◌++◌, [], IfOk, OnErr, OnOk, length, slice_index_or};
 ghost use Rattle.hc_records.specs.Boundaries.{boundaries};
 ghost use Rattle.hc_records.specs.Image.{datagram_count, inside};
@@ -24,7 +24,7 @@ use std::alloc::{AllocError, Global};
 use std::marker::Model;
 use std::sync::ledger::Ledger;
 
-/// A task's areas, and the boundaries that were last worked out for them.
+/// A task's areas, and the boundaries that were last computed for them.
 #[derive(Debug)]
 pub struct Cuts {
     tree: SumTree,
@@ -49,7 +49,7 @@ impl Model for Cuts {
     ghost invariant = { λ cuts. HoldsTaskList cuts.tree };
 }
 
-/// The boundary after one of those where datagrams begin: the next of them, or `Key::END`.
+/// Returns the boundary after one at which a datagram begins: the next of them, or `Key::END`.
 pub(crate) fn end_of(starts: &[Key], i: usize) -> Key
     requires { i < length starts.now }
     ensures { result ≡ slice_index_or (starts.now ++ END ∷ []) (i + 1) END }
@@ -72,7 +72,7 @@ impl Cuts {
     ghost use Rattle.hc_cuts.specs.Repair.{AreOfBefore, unsettled_between, IsBefore};
     ghost use Rattle.hc_cuts.specs.Starts.{empty_task_cuts, cuts_with_slaves};
 
-    /// A task without areas of so many slaves, at most 2,048. `AllocError` where a growth was refused.
+    /// Returns a task without areas of `slaves` slaves, at most 2,048. `AllocError` if an allocation fails.
     pub fn new(alloc: Global, slaves: u16) -> Result<Cuts, AllocError>
         requires { slaves ≤ MOST_SLAVES }
         ensures { IfOk result (λ cuts. cuts ≡ empty_task_cuts slaves) }
@@ -83,9 +83,8 @@ impl Cuts {
         Ok(Cuts { tree, starts })
     }
 
-    /// Sets the width of an area of one of its slaves, at most 11,888 bits; the boundaries stay those
-    /// that were last worked out. Its areas are then a task's list again. It takes no
-    /// memory.
+    /// Sets the width of an area of one of its slaves, at most 11,888 bits; the boundaries stay those that were last computed.
+    /// Its areas are then a task's list again. It allocates nothing.
     pub fn set(&mut self, key: Key, bits: u16)
         requires place { HasPlace self.old.tree.slaves key }
         requires narrow { bits ≤ MOST_AREA_BITS }
@@ -96,15 +95,15 @@ impl Cuts {
         self.tree.set(key, bits);
     }
 
-    /// Whether it has room for so many slaves (`SumTree::has_room`). It takes no memory.
+    /// Returns whether it has the capacity for this many slaves (`SumTree::has_room`). It allocates nothing.
     pub fn has_room(&self, slaves: u16) -> bool
         ensures { IsTrue result ↔ HasRoom self.now.tree.slaves slaves }
     {
         self.tree.has_room(slaves)
     }
 
-    /// From now on there are so many slaves; it has room for them: those after its own have no areas yet. Its
-    /// areas and boundaries stay, and its areas are a task's list. It takes no memory.
+    /// Extends it to this many slaves, for which it has the capacity: those after its own have no areas yet. Its areas and
+    /// boundaries stay, and its areas are a task's list. It allocates nothing.
     pub fn admit(&mut self, slaves: u16)
         requires more { self.old.tree.slaves ≤ slaves }
         requires room { HasRoom self.old.tree.slaves slaves }
@@ -114,9 +113,8 @@ impl Cuts {
         self.tree.admit(slaves);
     }
 
-    /// Its own areas and boundaries in a tree with places for so many slaves, at most 2,048: those after its own
-    /// have no areas yet. No boundary is searched; the areas are gone over. `AllocError` where a growth was
-    /// refused.
+    /// Returns its areas and boundaries in a tree with places for this many slaves, at most 2,048: those after its own have no
+    /// areas yet. No boundary is searched; the areas are copied. `AllocError` if an allocation fails.
     pub fn widened(&self, alloc: Global, slaves: u16) -> Result<Cuts, AllocError>
         requires more { self.now.tree.slaves ≤ slaves }
         requires most { slaves ≤ MOST_SLAVES }
@@ -129,8 +127,8 @@ impl Cuts {
         })
     }
 
-    /// Whether the task has inputs: whether the last of its areas is one, as outputs come first. The sum of
-    /// all areas says that, so no area is read. It takes no memory.
+    /// Returns whether the task has inputs: whether the last of its areas is one, as outputs come first. The sum of all areas
+    /// says that, so no area is read. It allocates nothing.
     pub fn has_inputs(&self) -> bool
         ensures { result ≡ has_inputs self.now.tree.list }
     {
@@ -140,8 +138,8 @@ impl Cuts {
         }
     }
 
-    /// The boundaries that were last worked out but the last one, `Key::END`: `Key::START`, where
-    /// the first datagram begins if there is one, and the keys where the later ones do.
+    /// Returns the boundaries that were last computed, without the last one, `Key::END`: `Key::START`, at which the first
+    /// datagram begins if there is one, and the keys at which the later ones do.
     pub fn starts(&self) -> &[Key]
         ensures starts { result.now ≡ self.now.starts }
         ensures few { length result.now ≤ MOST_DATAGRAMS }
@@ -149,7 +147,7 @@ impl Cuts {
         &self.starts
     }
 
-    /// A copy of the boundaries that were last worked out, as `starts` lends them. It takes no memory.
+    /// Returns a copy of the boundaries that were last computed, as `starts` lends them. It allocates nothing.
     pub fn copied_starts(&self) -> ArrayVec<Key, 16>
         ensures { result.items ≡ self.now.starts }
     {
@@ -159,7 +157,7 @@ impl Cuts {
         starts
     }
 
-    /// Puts others in the place of the boundaries that were last worked out. It takes no memory.
+    /// Replaces the boundaries that were last computed. It allocates nothing.
     pub fn put_starts(&mut self, others: ArrayVec<Key, 16>)
         ensures areas { self.new.tree ≡ self.old.tree }
         ensures starts { self.new.starts ≡ others.items }
@@ -167,12 +165,11 @@ impl Cuts {
         self.starts = others;
     }
 
-    /// Works out the boundaries after widths were set, and how many of the spans between them aren't
-    /// settled: those that don't begin at a boundary of before, or that meet a hull. The boundaries of
-    /// before are its areas' of that time, whose widths differ from the present ones inside the hulls
-    /// alone. A settled span is kept; each other one is searched, in 1 to 104 steps. `TooManyDatagrams`
-    /// exactly where packing gives more than 16 datagrams; the boundaries stay as they were, and at most
-    /// 16 searches were made. It takes no memory.
+    /// Computes the boundaries after widths were set, and returns how many of the spans between them are not settled: those
+    /// that do not begin at an old boundary, or that meet a hull. The old boundaries are those of its areas at that time, whose
+    /// widths differ from the present ones only inside the hulls. A settled span stays; each other one is searched, in 1 to 104
+    /// steps. It allocates nothing. Fails with `TooManyDatagrams` exactly if packing gives more than 16 datagrams; then the
+    /// boundaries are unchanged, after at most 16 searches.
     pub fn repair<L: Ledger>(
         &mut self,
         hulls: &Hulls,
@@ -196,9 +193,9 @@ impl Cuts {
         Ok(count)
     }
 
-    /// The areas of one of its datagrams with their places, in key order; none where it has no datagram with
-    /// that number. The boundaries are its areas', as `cut` leaves them; the areas of the datagram alone are
-    /// gone over. `AllocError` where a growth was refused.
+    /// Returns the areas of one of its datagrams with their places, in key order; none if it has no datagram with that number.
+    /// The boundaries must be its areas', as `cut` leaves them; only the areas of the datagram are read. `AllocError` if an
+    /// allocation fails.
     pub fn datagram(&self, alloc: Global, number: u16) -> Result<Vec<Placed>, AllocError>
         requires { self.now.starts ++ END ∷ [] ≡ boundaries self.now.tree.list }
         ensures { IfOk result (λ places. places.items ≡ inside number (packed opening self.now.tree.list)) }
@@ -214,9 +211,8 @@ impl Cuts {
         Ok(places)
     }
 
-    /// The areas of the task with their places, in key order: packed one after another from the empty
-    /// first datagram. The boundaries are its areas', as `cut` leaves them. `AllocError` where a growth
-    /// was refused.
+    /// Returns the areas of the task with their places, in key order: packed one after another from the empty first datagram.
+    /// The boundaries must be its areas', as `cut` leaves them. `AllocError` if an allocation fails.
     pub fn places(&self, alloc: Global) -> Result<Vec<Placed>, AllocError>
         requires { self.now.starts ++ END ∷ [] ≡ boundaries self.now.tree.list }
         ensures { IfOk result (λ places. places.items ≡ packed opening self.now.tree.list) }
@@ -230,18 +226,17 @@ impl Cuts {
         Ok(places)
     }
 
-    /// The width in bits of its area with a key, any key; 0 where it has no such area. It takes no memory and
-    /// no steps.
+    /// Returns the width in bits of its area with a key; 0 if it has no such area. It allocates nothing and takes no steps.
     pub fn bits(&self, key: Key) -> u16
         ensures { result ≡ width_in self.now.tree.list key }
     {
         self.tree.bits(key)
     }
 
-    /// The place of its area with a key, any key: the datagram that carries it, and its first bit there;
-    /// none where it has no such area. It is that which `places` gives, without the places of the others:
-    /// the boundaries give the datagram, and the tree how far it is filled before the area. The boundaries
-    /// are its areas', as `cut` leaves them. It takes no memory and no steps.
+    /// Returns the place of its area with a key: the datagram that carries it, and its first bit there. `None` if it has no
+    /// such area. It equals the place that `places` gives, without the places of the others: the boundaries give the datagram,
+    /// and the tree how far it is filled before the area. The boundaries must be its areas', as `cut` leaves them. It allocates
+    /// nothing and takes no steps.
     pub fn place(&self, key: Key) -> Option<Placed>
         requires { self.now.starts ++ END ∷ [] ≡ boundaries self.now.tree.list }
         ensures { result ≡ place_of key self.now.tree.list }
@@ -249,11 +244,10 @@ impl Cuts {
         self.place_from(&mut Cursor::start(), key)
     }
 
-    /// The place of its area with a key, any key, as `place` gives it, by a cursor that is in the task, as
-    /// one at the start does. It is in the task again, at the area if there is one. Where the same datagram
-    /// carries an area at its key or after it, only the areas between are read, so areas that are asked for
-    /// in key order take few reads. The boundaries are its areas', as `cut` leaves them. It takes no memory
-    /// and no steps.
+    /// Returns the place of its area with a key, as `place` does, with the help of a cursor in the task, for example one at the
+    /// start. The cursor is in the task again, at the area if there is one. If its datagram carries an area at its key or after
+    /// it, only the areas between are read, so areas that are asked for in key order take few reads. The boundaries must be its
+    /// areas', as `cut` leaves them. It allocates nothing and takes no steps.
     #[inline(always)]
     pub fn place_from(&self, cursor: &mut Cursor, key: Key) -> Option<Placed>
         requires cut { self.now.starts ++ END ∷ [] ≡ boundaries self.now.tree.list }

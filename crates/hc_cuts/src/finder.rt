@@ -1,5 +1,5 @@
-//! Places of areas of a line, where many are asked for one after another: those of a task and a direction
-//! in the order of their keys take few reads. The parts of an edit's change ask for them.
+//! A finder of places of a line's areas. Areas of a task and a direction that are asked for in the order of their keys take few
+//! reads. The parts of an edit's change use it.
 use crate::cursor::Cursor;
 use crate::packing::Placed;
 use crate::tasks::LineCuts;
@@ -8,8 +8,7 @@ use hc_records::records::Dir;
 use hc_records::task::Task;
 use std::marker::Model;
 
-/// The tasks of a line, lent, and of each task a cursor among its outputs and one among its inputs. Contracts
-/// see the tasks.
+/// The tasks of a line, lent, and for each task a cursor among its outputs and one among its inputs. Contracts see the tasks.
 #[derive(Drop)]
 pub struct Finder<'a> {
     cuts: &'a LineCuts,
@@ -35,7 +34,7 @@ impl<'a> Finder<'a> {
     ghost use Rattle.hc_cuts.specs.Areas.{list_by, AreaLine};
     ghost use Rattle.hc_cuts.specs.TaskCuts.{line_cuts};
 
-    /// A finder among the tasks of a line. It takes no memory.
+    /// Returns a finder among the tasks of a line. It allocates nothing.
     pub fn of(cuts: &'a LineCuts) -> Finder<'a>
         ensures { result ≡ cuts.now }
     {
@@ -46,8 +45,8 @@ impl<'a> Finder<'a> {
         }
     }
 
-    /// The place of an area in a task by its key, any key, as `LineCuts::place` gives it; none where
-    /// the task has no such area. It takes no memory.
+    /// Returns the place of an area in a task by its key, as `LineCuts::place` does, or `None` if the task has no such area. It
+    /// allocates nothing.
     pub fn place(&mut self, task: Task, key: Key) -> Option<Placed>
         ensures tasks { self.new ≡ self.old }
         ensures place { (line : AreaLine) → self.old ≡ line_cuts line → result ≡ place_of key (list_by task line) }

@@ -16,7 +16,7 @@ use thiserror::Error;
 #[error("too many datagrams")]
 pub struct TooManyDatagrams;
 
-/// Adds the keys of the areas where a later datagram begins, where one is being filled.
+/// Appends the keys of the areas at which a later datagram begins, while one is being filled.
 fn add_cuts(
     keys: &mut ArrayVec<Key, 16>,
     first: Front,
@@ -43,9 +43,8 @@ fn add_cuts(
     Ok(())
 }
 
-/// The keys where the datagrams of a task's list begin, in its order: at most 16. The list has the
-/// task's keys with their widths, 1 to 11,888 bits. `TooManyDatagrams` exactly where packing gives
-/// more than 16.
+/// Returns the keys at which the datagrams of a task's list begin, in its order: at most 16. The list has the task's keys with
+/// their widths, 1 to 11,888 bits. Fails with `TooManyDatagrams` exactly if packing gives more than 16.
 pub fn fold_cuts(list: &[(Key, u16)]) -> Result<ArrayVec<Key, 16>, TooManyDatagrams>
     requires { All IsPackable list.now }
     ensures keys { IfOk result (λ keys. keys.items ≡ first_keys list.now) }

@@ -1,4 +1,4 @@
-//! The hulls of an edit of a task: which keys it touches, from the least to the greatest.
+//! The hulls of an edit of a task: its touched keys, from the least to the greatest.
 ghost use Rattle.std.specs.Prelude.{◌≡◌};
 ghost use Rattle.hc_records.specs.Boundaries.{meets_hull, widened};
 ghost use Rattle.hc_records.specs.Keys.{is_within};
@@ -6,8 +6,8 @@ ghost use Rattle.hc_records.specs.Keys.{is_within};
 use hc_records::keys::Key;
 use hc_records::records::Dir;
 
-/// The intervals from the least to the greatest touched output and from the least to the greatest
-/// touched input; none where an edit touches none.
+/// The intervals from the least to the greatest touched output and from the least to the greatest touched input; none if an
+/// edit touches none.
 #[derive(Clone, Copy)]
 pub struct Hulls {
     /// The outputs' hull.
@@ -16,7 +16,7 @@ pub struct Hulls {
     pub inputs: Option<(Key, Key)>,
 }
 
-/// The least interval that holds a key and an interval, if there is one.
+/// Returns the least interval that holds a key and an interval, if there is one.
 fn widened(hull: Option<(Key, Key)>, key: Key) -> Option<(Key, Key)>
     ensures { result ≡ widened hull key }
 {
@@ -29,14 +29,14 @@ fn widened(hull: Option<(Key, Key)>, key: Key) -> Option<(Key, Key)>
     ))
 }
 
-/// Whether a key comes before another or is the same.
+/// Returns whether a key comes before another or is the same.
 fn is_within(a: Key, b: Key) -> bool
     ensures { result ≡ is_within a b }
 {
     a.is_before(b) || a.is_same(b)
 }
 
-/// Whether a span has a key in common with a hull.
+/// Returns whether a span has a key in common with a hull.
 pub(crate) fn meets_hull(hull: Option<(Key, Key)>, span: (Key, Key)) -> bool
     ensures { result ≡ meets_hull hull span }
 {
@@ -51,7 +51,7 @@ impl Hulls {
     ghost use Rattle.hc_records.specs.Keys.{same_key};
     ghost use Rattle.hc_cuts.specs.Hulls.{TakeIn, are_none, no_hulls};
 
-    /// Those of an edit that touches no key.
+    /// Returns the hulls of an edit that touches no key.
     pub fn none() -> Hulls
         ensures { result ≡ no_hulls }
     {
@@ -61,7 +61,7 @@ impl Hulls {
         }
     }
 
-    /// Whether no key is touched.
+    /// Returns whether no key is touched.
     pub fn are_none(&self) -> bool
         ensures { result ≡ are_none self.now }
     {

@@ -1,4 +1,4 @@
-//! Which datagrams of a task an edit keeps: they carry the areas that they carried, each at its bit.
+//! The datagrams of a task that an edit leaves as they are: each carries the areas that it carried, at the same bits.
 ghost use Rattle.std.specs.Prelude.{◌≡◌, ◌&&◌, ◌++◌, ◌∷◌, List, false, not, slice_get};
 ghost use Rattle.std.specs.Option.{option_map_or};
 ghost use Rattle.hc_records.specs.Boundaries.{meets_hull};
@@ -14,7 +14,7 @@ use crate::hulls::Hulls;
 use crate::repair::meets_either;
 use hc_records::keys::Key;
 
-/// Whether the datagram with a number began at a key, by the keys where datagrams began.
+/// Returns whether the datagram with a number began at a key, by the keys at which datagrams began.
 fn began_at(starts: &[Key], number: usize, key: Key) -> bool
     ensures { result ≡ option_map_or (same_key key) (slice_get starts.now number) false }
 {
@@ -24,14 +24,14 @@ fn began_at(starts: &[Key], number: usize, key: Key) -> bool
     }
 }
 
-/// Whether a datagram began at the key where its span does, which meets no hull.
+/// Returns whether a datagram began at the key at which its span does, which meets no hull.
 fn is_unchanged_span(old_starts: &[Key], hulls: &Hulls, number: usize, span: (Key, Key)) -> bool
     ensures { result ≡ option_map_or (same_key span.0) (slice_get old_starts.now number) false && not (meets_either hulls.now span) }
 {
     began_at(old_starts, number, span.0) && !meets_either(hulls, span)
 }
 
-/// Whether a datagram is kept by these hulls.
+/// Returns whether a datagram stays, by these hulls.
 fn is_unchanged_by(old_starts: &[Key], new_starts: &[Key], hulls: &Hulls, number: usize) -> bool
     ensures { result ≡ is_unchanged_by hulls.now old_starts.now new_starts.now number }
 {
@@ -42,18 +42,17 @@ fn is_unchanged_by(old_starts: &[Key], new_starts: &[Key], hulls: &Hulls, number
     is_unchanged_span(old_starts, hulls, number, span)
 }
 
-/// Whether an edit keeps the datagram of a task with a number, from 0: it began at the key where it begins
-/// now, and the areas up to the next boundary meet no hull of the touched keys. The starts are those of the
-/// task's list before the edit and after it, the keys where their datagrams begin; a list without areas has
-/// `Key::START` alone. A datagram that isn't there isn't kept. It takes no memory.
+/// Returns whether an edit leaves the datagram of a task with a number, from 0: it began at the key at which it begins now, and
+/// the areas up to the next boundary meet no hull of the touched keys. The starts are those of the task's list before the edit
+/// and after it, the keys at which their datagrams begin; a list without areas has `Key::START` alone. A datagram that does not
+/// exist does not stay. It allocates nothing.
 pub fn is_unchanged(old_starts: &[Key], new_starts: &[Key], hulls: &Hulls, number: u16) -> bool
     ensures { (old new : List Keyed) → AreKnownOfTask old new old_starts.now new_starts.now hulls.now → result ≡ is_unchanged old new number }
 {
     is_unchanged_by(old_starts, new_starts, hulls, usize::from(number))
 }
 
-/// The first key that makes an interval meet a hull, among those up to which it may reach from a key on:
-/// `Key::END` where none does.
+/// Returns the first key that makes an interval from a key on meet a hull; `Key::END` if none does.
 fn first_met(hull: Option<(Key, Key)>, start: Key) -> Key
     ensures { HoldsBefore result (λ key. not (meets_hull hull (start, key))) }
 {
@@ -63,14 +62,14 @@ fn first_met(hull: Option<(Key, Key)>, start: Key) -> Key
     }
 }
 
-/// The lower of two keys.
+/// Returns the lower of two keys.
 fn lower(one: Key, other: Key) -> Key
     ensures { (key : Key) → is_before key result ≡ (is_before key one && is_before key other) }
 {
     if one.is_before(other) { one } else { other }
 }
 
-/// The first key that makes an interval from another one on meet either hull; `Key::END` where none does.
+/// Returns the first key that makes an interval from another one on meet either hull; `Key::END` if none does.
 fn first_met_of_either(hulls: &Hulls, start: Key) -> Key
     ensures { HoldsBefore result (λ key. not (meets_either hulls.now (start, key))) }
 {
@@ -80,7 +79,7 @@ fn first_met_of_either(hulls: &Hulls, start: Key) -> Key
     )
 }
 
-/// The key before which the areas of a datagram are kept by these hulls.
+/// Returns the key before which the areas of a datagram stay, by these hulls.
 fn unchanged_until_by(old_starts: &[Key], new_starts: &[Key], hulls: &Hulls, number: usize) -> Key
     ensures { HoldsBefore result (is_unchanged_up_to_by hulls.now old_starts.now new_starts.now number) }
 {
@@ -92,10 +91,10 @@ fn unchanged_until_by(old_starts: &[Key], new_starts: &[Key], hulls: &Hulls, num
     }
 }
 
-/// The key before which the areas of a datagram of a task are where they were, by the number of the
-/// datagram, from 0: where it began at the key where it begins now, the first of its keys that makes the
-/// interval from there on meet a hull of the touched keys, or `Key::END` where none does; `Key::START` where
-/// it began elsewhere or isn't there. Starts, hulls and memory as for `is_unchanged`.
+/// Returns the key before which the areas of a datagram of a task stay at their places, by the number of the datagram, from 0.
+/// If it began at the key at which it begins now, this is the first of its keys that makes the interval from there on meet a
+/// hull of the touched keys, or `Key::END` if none does. If it began elsewhere or does not exist, it is `Key::START`. Starts
+/// and hulls are those of `is_unchanged`. It allocates nothing.
 pub fn unchanged_until(old_starts: &[Key], new_starts: &[Key], hulls: &Hulls, number: u16) -> Key
     ensures { (old new : List Keyed) → AreKnownOfTask old new old_starts.now new_starts.now hulls.now → HoldsBefore result (is_unchanged_up_to old new number) }
 {

@@ -1,9 +1,8 @@
-//! What follows from the definitions of this crate: each function does nothing, and its contract is a
-//! law. Nobody calls it.
+//! Laws that follow from the definitions of this crate. Each function does nothing, and its contract is a law. Nobody calls it.
 ghost use Rattle.hc_cuts.specs.Laws.{OverLimitHasNoCut};
 
-/// Where packing gives more than 16 datagrams, no other cut of the list in its order into at most 16
-/// parts that fit a datagram each exists, so nobody is refused who could have been served.
+/// If packing gives more than 16 datagrams, no other cut of the list in its order into at most 16 parts that fit a datagram
+/// each exists. So no task is refused that another cut could serve.
 pub fn over_limit_has_no_cut()
     ensures { OverLimitHasNoCut }
 {}

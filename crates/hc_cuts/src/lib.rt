@@ -1,6 +1,6 @@
-//! Where the datagrams of tasks begin: the areas of each of a line's eight tasks, in a tree of sums, with their
-//! boundaries. An edit sets the widths that it changes and repairs the boundaries of the tasks that it touches. The
-//! plan keeps a `LineCuts`.
+//! The boundaries of tasks' datagrams: the areas of each of a line's eight tasks, in a tree of sums, with the keys at which its
+//! datagrams begin. An edit sets the widths that it changes and repairs the boundaries of the tasks that it touches. The plan
+//! has a `LineCuts`.
 #![tactic(auto)]
 
 mod applying;
@@ -23,3 +23,7 @@ pub mod touched;
 mod walk;
 mod widening;
 mod widths;
+
+pub use cuts::Cuts;
+pub use fold::TooManyDatagrams;
+pub use tasks::LineCuts;

@@ -1,5 +1,5 @@
-//! What differs between two lines: a stretch of slaves, and the areas that each of them has in the one line and in
-//! the other. An edit makes it once; whoever keeps something of the line takes it from there.
+//! The difference between two lines: a stretch of slaves, and the areas of each of them in either line. An edit makes it once,
+//! and every part that stores something of the line uses it.
 ghost use Rattle.std.specs.Prelude.{◌≡◌, [], slice_index_or, true};
 ghost use Rattle.hc_cuts.specs.LineChange.{areas_if};
 
@@ -7,10 +7,10 @@ use crate::areas::SlaveAreas;
 use hc_records::records::{Area, Slave};
 use std::marker::Model;
 
-/// The areas that the slaves of a stretch have in one of the two lines.
+/// The areas of the slaves of a stretch in one of the two lines.
 #[derive(Clone, Copy, Debug)]
 pub(crate) enum Side<'a> {
-    /// So many slaves, and none is present.
+    /// This many slaves, none of which is present.
     Absent(usize),
     /// Present slaves, each with the areas of its record.
     Present(&'a [Slave]),
@@ -20,7 +20,7 @@ pub(crate) enum Side<'a> {
     Line(&'a [SlaveAreas<'a>]),
 }
 
-/// The areas of the slave at an index of some; none where there is no such slave.
+/// Returns the areas of the slave at an index of some; none if there is no such slave.
 fn record_areas<'a>(slaves: &'a [Slave], index: usize) -> &'a [Area]
     ensures { result.now ≡ slice_index_or (areas_if true slaves.now) index [] }
 {
@@ -30,7 +30,7 @@ fn record_areas<'a>(slaves: &'a [Slave], index: usize) -> &'a [Area]
     }
 }
 
-/// Those of the slave at an index of a whole line.
+/// Returns the areas of the slave at an index of a whole line.
 fn listed_areas<'a>(slaves: &'a [SlaveAreas<'a>], index: usize) -> &'a [Area]
     ensures { result.now ≡ slice_index_or slaves.now index [] }
 {
@@ -45,7 +45,7 @@ impl<'a> Side<'a> {
     ghost use Rattle.hc_cuts.specs.inner.LineChange.{side_areas};
     ghost use Rattle.hc_cuts.specs.LineChange.{areas_if};
 
-    /// The slaves of a group that is present or isn't.
+    /// Returns the slaves of a group that is present or not.
     fn of_group(slaves: &'a [Slave], present: bool) -> Side<'a>
         ensures { side_areas result ≡ areas_if present slaves.now }
     {
@@ -56,7 +56,7 @@ impl<'a> Side<'a> {
         }
     }
 
-    /// How many slaves these are.
+    /// Returns the number of slaves.
     fn slaves(&self) -> usize
         ensures { result ≡ length (side_areas self.now) }
     {
@@ -68,7 +68,7 @@ impl<'a> Side<'a> {
         }
     }
 
-    /// The areas of the slave at an index; none where there is no such slave.
+    /// Returns the areas of the slave at an index, or `None` if there is no such slave.
     fn areas(&self, index: usize) -> &'a [Area]
         ensures { result.now ≡ slice_index_or (side_areas self.now) index [] }
     {
@@ -81,8 +81,8 @@ impl<'a> Side<'a> {
     }
 }
 
-/// What differs between two lines: slaves in a row, with the areas that each has in the one line and in the other. All
-/// other slaves have the same areas in both. It lends what it gives, and takes no memory.
+/// The difference between two lines: slaves in a row, with the areas of each in either line. All other slaves have the same
+/// areas in both. It lends what it returns, and allocates nothing.
 #[derive(Debug, Drop)]
 pub struct LineChange<'a> {
     first: u16,
@@ -106,7 +106,7 @@ impl<'a> LineChange<'a> {
     ghost use Rattle.std.specs.Prelude.{◌≡◌, ◌+◌, ◌<◌, ◌∷◌, [], IfNone, IfSome, false, length, replicate, slice_index_or};
     ghost use Rattle.hc_cuts.specs.LineChange.{areas_if, back, changes};
 
-    /// Where the slaves of a group, from a rank on, were in the line or weren't, and are in it afterwards or aren't.
+    /// Returns the change of a group's slaves, from a rank on, which were in the line or not, and are in it afterwards or not.
     pub fn of_group(first: u16, slaves: &'a [Slave], was: bool, is: bool) -> LineChange<'a>
         ensures { result ≡ record { first = first; areas_before = areas_if was slaves.now; areas_after = areas_if is slaves.now } }
     {
@@ -117,7 +117,7 @@ impl<'a> LineChange<'a> {
         }
     }
 
-    /// Where the slave with a rank had some areas in the line, and has others.
+    /// Returns the change of the slave with a rank that had some areas in the line, and gets others.
     pub fn of_slave(rank: u16, before: &'a [Area], after: &'a [Area]) -> LineChange<'a>
         ensures { result ≡ record { first = rank; areas_before = before.now ∷ []; areas_after = after.now ∷ [] } }
     {
@@ -128,7 +128,7 @@ impl<'a> LineChange<'a> {
         }
     }
 
-    /// From a line where no slave is present to one whose slaves have these areas.
+    /// Returns the change from a line without slaves to one whose slaves have these areas.
     pub(crate) fn opening(line: &'a [SlaveAreas<'a>]) -> LineChange<'a>
         ensures { result ≡ record { first = 1; areas_before = replicate (length line.now) []; areas_after = line.now } }
     {
@@ -139,14 +139,14 @@ impl<'a> LineChange<'a> {
         }
     }
 
-    /// The rank of the first slave.
+    /// Returns the rank of the first slave.
     pub fn first(&self) -> u16
         ensures { result ≡ self.now.first }
     {
         self.first
     }
 
-    /// How many slaves these are, as many before as after.
+    /// Returns the number of slaves, as many before as after.
     pub fn slaves(&self) -> usize
         ensures count { result ≡ length self.now.areas_before }
         ensures same { length self.now.areas_after ≡ length self.now.areas_before }
@@ -154,21 +154,21 @@ impl<'a> LineChange<'a> {
         self.before.slaves()
     }
 
-    /// The areas in the line before of the slave at an index, from 0; none where there is no such slave.
+    /// Returns the areas of the slave at an index, from 0, in the line before, or `None` if there is no such slave.
     pub fn areas_before(&self, index: usize) -> &'a [Area]
         ensures { result.now ≡ slice_index_or self.now.areas_before index [] }
     {
         self.before.areas(index)
     }
 
-    /// Those that the slave has in the line after.
+    /// Returns the areas of the slave at an index, from 0, in the line after, or `None` if there is no such slave.
     pub fn areas_after(&self, index: usize) -> &'a [Area]
         ensures { result.now ≡ slice_index_or self.now.areas_after index [] }
     {
         self.after.areas(index)
     }
 
-    /// The index of the slave with a rank among these, none where it isn't one of them.
+    /// Returns the index of the slave with a rank among these, or `None` if it is not one of them.
     pub fn index_of(&self, rank: u16) -> Option<usize>
         ensures some { IfSome result (λ index. (rank ≡ self.now.first + index) × (index < length self.now.areas_before)) }
         ensures none { IfNone result (changes self.now rank ≡ false) }
@@ -184,7 +184,7 @@ impl<'a> LineChange<'a> {
         }
     }
 
-    /// The change that leads back.
+    /// Returns the change in the other direction.
     pub fn back(&self) -> LineChange<'a>
         ensures { result ≡ back self.now }
     {

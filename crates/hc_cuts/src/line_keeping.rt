@@ -1,5 +1,5 @@
-//! Which datagrams of the eight tasks an edit keeps, given by what is known of the tasks before they are
-//! turned. The plan keeps it from the turn to the end of an edit, and the parts of its change ask it.
+//! The datagrams of the eight tasks that an edit leaves as they are, from facts of the tasks before they are turned. The plan
+//! has these from the turn to the end of an edit, and the parts of its change use them.
 ghost use Rattle.hc_cuts.specs.Areas.{AreaLine};
 ghost use Rattle.hc_cuts.specs.ApplyWidths.{AreLines, HasLines};
 ghost use Rattle.hc_cuts.specs.LineKeeping.{AreLineHulls};
@@ -15,8 +15,7 @@ use hc_records::limits::TASKS;
 use hc_records::task::Task;
 use std::marker::Model;
 
-/// The boundaries of the eight tasks of a line as they were, and the hulls of the keys whose widths a change makes
-/// differ.
+/// The boundaries of the eight tasks of a line before a change, and the hulls of the keys whose widths the change makes differ.
 #[derive(Drop)]
 pub struct Before {
     starts: LineStarts,
@@ -31,7 +30,7 @@ impl Model for Before {
     ghost view = { λ before. record { starts = before.starts; hulls = before.hulls } };
 }
 
-/// The hulls of the keys of the eight tasks whose widths a change makes differ.
+/// Returns the hulls of the keys of the eight tasks whose widths a change makes differ.
 fn all_hulls(change: &LineChange) -> [Hulls; 8]
     requires { HasLines change.now }
     ensures { (old new : AreaLine) → AreLines change.now old new → AreLineHulls old new result }
@@ -53,8 +52,8 @@ impl Before {
     ghost use Rattle.hc_cuts.specs.Recut.{is_touched_by};
     ghost use Rattle.hc_cuts.specs.ApplyWidths.{AreLines, HasLines};
 
-    /// What is known of the tasks of a line before they are turned into those of the line that a change leads to. It takes
-    /// no memory.
+    /// Returns the facts of the tasks of a line, before they are turned into those of the line that a change leads to. It
+    /// allocates nothing.
     pub fn of(cuts: &LineCuts, change: &LineChange) -> Before
         requires { HasLines change.now }
         ensures { (old new : AreaLine) → AreLines change.now old new → cuts.now ≡ line_cuts old → IsKnownBefore old new result }
@@ -65,24 +64,24 @@ impl Before {
         }
     }
 
-    /// The boundaries of the eight tasks of the old line. It takes no memory.
+    /// Returns the boundaries of the eight tasks of the old line. It allocates nothing.
     pub fn starts(&self) -> &LineStarts
         ensures { result.now ≡ self.now.starts }
     {
         &self.starts
     }
 
-    /// Whether the width of a key of a task differs between the two lines. It takes no memory.
+    /// Returns whether the width of a key of a task differs between the two lines. It allocates nothing.
     pub fn is_touched(&self, task: Task) -> bool
         ensures { (old new : AreaLine) → IsKnownBefore old new self.now → result ≡ is_touched_by task old new }
     {
         !self.hulls[task.as_index()].are_none()
     }
 
-    /// Whether the datagram of a task, with a number, from 0, is kept: it began at the key where it
-    /// begins now, and its keys up to the next boundary meet neither the interval from the least to the
-    /// greatest output whose width differs nor the inputs' interval. The tasks are the new line's,
-    /// turned. A datagram that isn't there isn't kept. It takes no memory.
+    /// Returns whether the datagram of a task, with a number from 0, stays: it began at the key at which it begins now, and its
+    /// keys up to the next boundary meet neither the interval from the least to the greatest output whose width differs nor the
+    /// inputs' interval. The tasks are the new line's, turned. A datagram that does not exist does not stay. It allocates
+    /// nothing.
     pub fn is_unchanged(&self, cuts: &LineCuts, task: Task, number: u16) -> bool
         ensures { (old new : AreaLine) → AreTasksOfEdit old new self.now cuts.now → result ≡ is_unchanged (list_by task old) (list_by task new) number }
     {
@@ -90,11 +89,10 @@ impl Before {
         is_unchanged(self.starts.of_task(task), cuts.starts(task), hulls, number)
     }
 
-    /// The key before which the areas of a datagram are where they were, by its task and its number, from 0:
-    /// where it began at the key where it begins now, the first of its keys up to which the interval from
-    /// there on meets the one from the least to the greatest output whose width differs, or the inputs' one,
-    /// or `Key::END` where none does; `Key::START` where it began elsewhere or isn't there. The tasks are the
-    /// new line's, turned. It takes no memory.
+    /// Returns the key before which the areas of a datagram stay at their places, by its task and its number, from 0. If it
+    /// began at the key at which it begins now, this is the first of its keys up to which the interval from there on meets the
+    /// one from the least to the greatest output whose width differs, or the inputs' one, or `Key::END` if none does. If it
+    /// began elsewhere or does not exist, it is `Key::START`. The tasks are the new line's, turned. It allocates nothing.
     pub fn unchanged_until(&self, cuts: &LineCuts, task: Task, number: u16) -> Key
         ensures { (old new : AreaLine) → AreTasksOfEdit old new self.now cuts.now → HoldsBefore result (is_unchanged_up_to (list_by task old) (list_by task new) number) }
     {

@@ -1,5 +1,4 @@
-//! The packing of a task's list, an area at a time (this project's profile): what the plain cut and the places
-//! are worked out by.
+//! The packing of a task's list, an area at a time (this project's profile). The plain cut and the places are computed by it.
 ghost use Rattle.std.specs.Prelude.{◌≡◌, ◌+◌, ◌<◌, ◌≤◌};
 ghost use Rattle.hc_records.specs.Packing.{opening};
 ghost use Rattle.hc_records.specs.declared.limits.TheConstants.{MOST_AREA_BITS};
@@ -11,8 +10,7 @@ use hc_records::limits::MOST_AREA_BITS;
 use hc_records::records::Dir;
 use std::marker::Model;
 
-/// An area, its width in bits, and the datagram and the bit where it begins. It ends within the
-/// longest datagram.
+/// An area, its width in bits, and the datagram and the bit at which it begins. It ends within the longest datagram.
 #[derive(Clone, Copy, Debug)]
 pub struct Placed {
     key: Key,
@@ -63,28 +61,28 @@ impl Placed {
     ghost use Rattle.hc_records.specs.Packing.{front_with};
     ghost use Rattle.hc_records.specs.declared.limits.TheConstants.{MOST_AREA_BITS};
 
-    /// The area's key.
+    /// Returns the area's key.
     pub fn key(self) -> Key
         ensures { result ≡ self.key }
     {
         self.key
     }
 
-    /// The area's width in bits.
+    /// Returns the area's width in bits.
     pub fn bits(self) -> u16
         ensures { result ≡ self.bits }
     {
         self.bits
     }
 
-    /// The number of its datagram, from 0.
+    /// Returns the number of its datagram, from 0.
     pub fn datagram(self) -> u16
         ensures { result ≡ self.datagram }
     {
         self.datagram
     }
 
-    /// Its first bit in that datagram.
+    /// Returns its first bit in that datagram.
     pub fn bit(self) -> u16
         ensures value { result ≡ self.bit }
         ensures inside { result + self.bits ≤ MOST_AREA_BITS }
@@ -92,7 +90,7 @@ impl Placed {
         self.bit
     }
 
-    /// The datagram that is being filled once the area is.
+    /// Returns the datagram that is being filled, after the area is in it.
     pub fn after_it(self) -> Front
         ensures { result ≡ front_with self }
     {
@@ -110,14 +108,14 @@ impl Front {
     ghost use Rattle.hc_cuts.specs.Walk.{blank_datagram, filled_datagram};
     ghost use Rattle.hc_records.specs.declared.limits.TheConstants.{MOST_AREA_BITS};
 
-    /// The empty first datagram.
+    /// Returns the empty first datagram.
     pub fn opening() -> Front
         ensures { result ≡ opening }
     {
         Front::blank(0)
     }
 
-    /// The datagram with a number, before an area is in it.
+    /// Returns the datagram with a number, before any area is in it.
     pub(crate) fn blank(datagram: u16) -> Front
         ensures { result ≡ blank_datagram datagram }
     {
@@ -128,7 +126,7 @@ impl Front {
         }
     }
 
-    /// The datagram with a number, filled so far.
+    /// Returns the datagram with a number, filled so far.
     pub(crate) fn filled(datagram: u16, filled: Filled) -> Front
         requires { filled.bit ≤ MOST_AREA_BITS }
         ensures { result ≡ filled_datagram datagram filled }
@@ -140,7 +138,7 @@ impl Front {
         }
     }
 
-    /// The bit where an area would begin.
+    /// Returns the bit at which an area would begin.
     fn beginning(self, key: Key, bits: u16) -> u16
         ensures value { result ≡ beginning self (key, bits) }
         ensures low { result ≤ MOST_AREA_BITS }
@@ -152,7 +150,7 @@ impl Front {
         }
     }
 
-    /// Whether an area of at most 11,888 bits would end within the datagram.
+    /// Returns whether an area of at most 11,888 bits would end within the datagram.
     pub fn fits(self, key: Key, bits: u16) -> bool
         requires { bits ≤ MOST_AREA_BITS }
         ensures { result ≡ fits self (key, bits) }
@@ -160,8 +158,7 @@ impl Front {
         u32::from(self.beginning(key, bits) + bits) <= MOST_AREA_BITS
     }
 
-    /// Where an area of at most 11,888 bits is: in this datagram where it fits, else at bit 0 of a
-    /// new one.
+    /// Returns the place of an area of at most 11,888 bits: in this datagram if it fits, else at bit 0 of a new one.
     pub fn place(self, key: Key, bits: u16) -> Placed
         requires narrow { bits ≤ MOST_AREA_BITS }
         requires few { self.datagram < 65535 }

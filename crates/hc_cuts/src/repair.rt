@@ -1,5 +1,5 @@
-//! The boundaries of a task repaired after an edit: those between which nothing was touched are kept, and
-//! the others are searched. `Cuts::repair` asks for them.
+//! The repair of a task's boundaries after an edit: those between which nothing was touched stay, and the others are searched.
+//! `Cuts::repair` uses it.
 ghost use Rattle.std.specs.Prelude.{◌≡◌, ◌+◌, ◌*◌, ◌<◌, ◌≤◌, ◌∷◌, ◌++◌, [], IfOk, OnErr, OnOk, drop, if◌then◌else◌};
 ghost use Rattle.hc_records.specs.Boundaries.{boundaries};
 ghost use Rattle.hc_records.specs.Image.{datagram_count};
@@ -22,14 +22,14 @@ use hc_bitsum::tree::SumTree;
 use hc_records::keys::Key;
 use std::sync::ledger::Ledger;
 
-/// Whether a span has a key in common with the hull of the outputs or of the inputs.
+/// Returns whether a span has a key in common with the hull of the outputs or of the inputs.
 pub(crate) fn meets_either(hulls: &Hulls, span: (Key, Key)) -> bool
     ensures { result ≡ meets_either hulls.now span }
 {
     meets_hull(hulls.outputs, span) || meets_hull(hulls.inputs, span)
 }
 
-/// The boundary after a key where a datagram begins: the key of the next one, or `Key::END`.
+/// Returns the boundary after a key at which a datagram begins: the key of the next one, or `Key::END`.
 fn following(starts: &[Key], from: Key) -> Option<Key>
     ensures { result ≡ following from starts.now }
 {
@@ -41,8 +41,8 @@ fn following(starts: &[Key], from: Key) -> Option<Key>
     None
 }
 
-/// Where the span from a boundary ends, and how many searches that took: none where the old span from
-/// there meets no hull, and so stays, and one elsewhere.
+/// Returns the end of the span from a boundary, and the number of searches for it: none if the old span from there meets no
+/// hull, and so stays, and else one.
 fn span_end<L: Ledger>(
     task: &SumTree,
     old: &[Key],
@@ -67,8 +67,8 @@ fn span_end<L: Ledger>(
     (next_cut(task, from, steps), 1)
 }
 
-/// The boundaries of a task's areas but the last, `Key::END`, and the number of searches for them. The
-/// old ones are those of areas whose widths differ from the task's inside the hulls alone.
+/// Returns the boundaries of a task's areas without the last, `Key::END`, and the number of searches for them. The old ones are
+/// those of areas whose widths differ from the task's only inside the hulls.
 pub(crate) fn repaired_starts<L: Ledger>(
     task: &SumTree,
     old: &[Key],

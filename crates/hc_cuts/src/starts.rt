@@ -1,11 +1,11 @@
-//! The boundaries of the eight tasks of a line, kept by themselves.
+//! Copies of the boundaries of the eight tasks of a line.
 use crate::cuts::Cuts;
 use arrayvec::ArrayVec;
 use hc_records::keys::Key;
 use hc_records::task::Task;
 use std::marker::Model;
 
-/// Those of a task, but `Key::END`.
+/// The boundaries of a task, without `Key::END`.
 #[derive(Default, Drop)]
 pub(crate) struct TaskStarts {
     keys: ArrayVec<Key, 16>,
@@ -23,14 +23,14 @@ impl Model for TaskStarts {
 impl TaskStarts {
     ghost use Rattle.std.specs.Prelude.{◌≡◌};
 
-    /// The keys.
+    /// Returns the keys.
     fn as_slice(&self) -> &[Key]
         ensures { result.now ≡ self.now }
     {
         self.keys.as_slice()
     }
 
-    /// A copy of them.
+    /// Returns a copy of the keys.
     fn copied(&self) -> ArrayVec<Key, 16>
         ensures { result.items ≡ self.now }
     {
@@ -41,7 +41,7 @@ impl TaskStarts {
     }
 }
 
-/// The boundaries of the eight tasks of a line, but `Key::END`, as they were when they were copied.
+/// The boundaries of the eight tasks of a line, without `Key::END`, at the time of the copy.
 #[derive(Drop)]
 pub struct LineStarts {
     tasks: ArrayVec<TaskStarts, 8>,
@@ -61,7 +61,7 @@ impl Model for LineStarts {
 impl LineStarts {
     ghost use Rattle.std.specs.Prelude.{◌≡◌, [], length, map, slice_index_or};
 
-    /// A copy of those of eight tasks. It takes no memory.
+    /// Returns a copy of the boundaries of eight tasks. It allocates nothing.
     pub(crate) fn of(tasks: &[Cuts]) -> LineStarts
         requires { length tasks.now ≡ 8 }
         ensures { result ≡ map (λ unchanged. unchanged.starts) tasks.now }
@@ -75,14 +75,14 @@ impl LineStarts {
         LineStarts { tasks: starts }
     }
 
-    /// Those of a task.
+    /// Returns the boundaries of a task.
     pub fn of_task(&self, task: Task) -> &[Key]
         ensures { result.now ≡ slice_index_or self.now task [] }
     {
         self.tasks[task.as_index()].as_slice()
     }
 
-    /// A copy of those of a task.
+    /// Returns a copy of the boundaries of a task.
     pub(crate) fn copied(&self, task: Task) -> ArrayVec<Key, 16>
         ensures { result.items ≡ slice_index_or self.now task [] }
     {

@@ -61,7 +61,7 @@ impl LineCuts {
     ghost use Rattle.hc_cuts.specs.Room.{AreOfFewer, TreesCanAdmit, with_absent};
     ghost use Rattle.hc_cuts.specs.ApplyWidths.{AreStartsOf, CanRestoreWidths, CanApplyWidths, RestoresWidths, AppliesWidths};
 
-    /// The tasks of a line of so many declared slaves, at most 2,048; none is present.
+    /// Returns the tasks of a line of this many declared slaves, at most 2,048, of which none is present.
     fn new(alloc: Global, slaves: u16) -> Result<LineCuts, AllocError>
         requires { slaves ≤ MOST_SLAVES }
         ensures { IfOk result (λ line. line ≡ line_cuts (replicate slaves [])) }
@@ -73,12 +73,11 @@ impl LineCuts {
         Ok(LineCuts { tasks })
     }
 
-    /// Turns the tasks of a line into those of the line that a change leads to. None of the old line's tasks needs
-    /// more than 16 datagrams, so a turn back, by the change that leads back, is never refused. The areas and
-    /// boundaries are then those of the new line, and the answer is how many spans of touched tasks aren't
-    /// settled. Otherwise the lowest task of the new line that needs more than 16 datagrams, and all is as it was.
-    /// Each span that isn't settled takes 1 to 104 steps, and nothing else takes any; a turn that is refused takes
-    /// at most 16 times 104 for each task where a width differs. It takes no memory.
+    /// Turns the tasks of a line into those of the line that a change leads to, and returns how many spans of touched tasks are
+    /// not settled. None of the old line's tasks needs more than 16 datagrams, so a turn back, by the change in the other
+    /// direction, never fails. Each span that is not settled takes 1 to 104 steps, and nothing else takes any; a turn that
+    /// fails takes at most 16 times 104 for each task in which a width differs. It allocates nothing. Fails with the lowest
+    /// task of the new line that needs more than 16 datagrams; then nothing has changed.
     pub fn apply_widths<L: Ledger>(
         &mut self,
         change: &LineChange,
@@ -97,8 +96,8 @@ impl LineCuts {
         apply_in_tasks(self.tasks.as_mut_slice(), 0, change, steps)
     }
 
-    /// Turns the tasks of a line into those of the line that a change leads to, whose boundaries are known, as those
-    /// of a line are to which the tasks are turned back. No boundary is searched, so it takes no steps and nothing is refused. It takes no memory.
+    /// Turns the tasks of a line into those of the line that a change leads to, whose boundaries are known, for example because
+    /// the tasks are turned back. No boundary is searched, so it takes no steps and cannot fail. It allocates nothing.
     pub fn restore_widths(&mut self, change: &LineChange, starts: &LineStarts)
         requires { CanRestoreWidths 8 0 self.old change.now starts.now }
         ensures { (old new : AreaLine) → RestoresWidths 8 0 self.old change.now starts.now old new → self.new ≡ line_cuts new }
@@ -106,8 +105,8 @@ impl LineCuts {
         restore_in_tasks(self.tasks.as_mut_slice(), 0, change, starts);
     }
 
-    /// The tasks of a line, from nothing. `TooManyDatagrams` with the lowest task that needs more than
-    /// 16, or `Memory` where a growth was refused.
+    /// Returns the tasks of a line, computed from nothing. Fails with `TooManyDatagrams` and the lowest task that needs more
+    /// than 16, or with `Memory` if an allocation fails.
     pub fn open<'a, L: Ledger>(
         alloc: Global,
         line: &'a [SlaveAreas<'a>],
@@ -126,18 +125,17 @@ impl LineCuts {
         }
     }
 
-    /// Whether the line's trees have room for so many slaves (`SumTree::has_room`): whether `admit` may be called.
-    /// It takes no memory.
+    /// Returns whether the line's trees have the capacity for this many slaves (`SumTree::has_room`), so that `admit` may be
+    /// called. It allocates nothing.
     pub fn has_room(&self, slaves: u16) -> bool
         ensures { (line : AreaLine) → self.now ≡ line_cuts line → IsTrue result ↔ HasRoom (length line) slaves }
     {
         self.tasks[0].has_room(slaves)
     }
 
-    /// Lets the line grow to so many slaves: as many as it has, or more. `has_room` must have said before that each
-    /// task's tree of sums has room for them. The new slaves come after the line's last one. They have no areas yet,
-    /// as the slaves of a group that isn't present. Each other slave keeps its areas, and each task its boundaries.
-    /// It takes no memory.
+    /// Extends the line to this many slaves: as many as it has, or more. `has_room` must have returned that each task's tree of
+    /// sums has the capacity. The new slaves come after the line's last one. They have no areas yet, as the slaves of a group
+    /// that is not present. Each other slave keeps its areas, and each task its boundaries. It allocates nothing.
     pub fn admit(&mut self, slaves: u16)
         requires { TreesCanAdmit self.old slaves }
         ensures { (line : AreaLine) (count : ℕ) → self.old ≡ line_cuts line → slaves ≡ length line + count → self.new ≡ line_cuts (with_absent count line) }
@@ -145,10 +143,10 @@ impl LineCuts {
         admit_all(self.tasks.as_mut_slice(), slaves);
     }
 
-    /// The tasks of the line with so many slaves, at most 2,048, in trees of their own: those after its own have
-    /// no areas, as those of a group that isn't present. The areas of the line are gone over, and no boundary is
-    /// searched. Where `has_room` is false the trees are at least twice as wide as the line's own, so the tasks of
-    /// a line that grows slave by slave are seldom made anew. `AllocError` where a growth was refused.
+    /// Returns the tasks of the line with this many slaves, at most 2,048, in trees of their own: those after its own have no
+    /// areas, as those of a group that is not present. The areas of the line are copied, and no boundary is searched. If
+    /// `has_room` is false the trees are at least twice as wide as the line's own, so the tasks of a line that grows slave by
+    /// slave are seldom made anew. `AllocError` if an allocation fails.
     pub fn widened(&self, alloc: Global, slaves: u16) -> Result<LineCuts, AllocError>
         requires fewer { AreOfFewer self.now slaves }
         requires most { slaves ≤ MOST_SLAVES }
@@ -158,8 +156,8 @@ impl LineCuts {
         Ok(LineCuts { tasks })
     }
 
-    /// The boundaries of a task but the last one, `Key::END`: `Key::START`, where the first datagram
-    /// begins if there is one, and the keys where the later ones do. It takes no memory.
+    /// Returns the boundaries of a task without the last one, `Key::END`: `Key::START`, at which the first datagram begins if
+    /// there is one, and the keys at which the later ones do. It allocates nothing.
     pub fn starts(&self, task: Task) -> &[Key]
         ensures starts { (line : AreaLine) → self.now ≡ line_cuts line → result.now ≡ starts_by task line }
         ensures few { length result.now ≤ MOST_DATAGRAMS }
@@ -167,15 +165,15 @@ impl LineCuts {
         self.tasks[task.as_index()].starts()
     }
 
-    /// Whether a task has inputs. No area is read. It takes no memory.
+    /// Returns whether a task has inputs. No area is read. It allocates nothing.
     pub fn has_inputs(&self, task: Task) -> bool
         ensures { (line : AreaLine) → self.now ≡ line_cuts line → result ≡ has_inputs (list_by task line) }
     {
         self.tasks[task.as_index()].has_inputs()
     }
 
-    /// The areas of a datagram of a task, with their places, in key order; none where the task has no
-    /// datagram with that number. `AllocError` where a growth was refused.
+    /// Returns the areas of a datagram of a task, with their places, in key order; none if the task has no datagram with that
+    /// number. `AllocError` if an allocation fails.
     pub fn datagram(
         &self,
         alloc: Global,
@@ -187,32 +185,31 @@ impl LineCuts {
         self.tasks[task.as_index()].datagram(alloc, number)
     }
 
-    /// The areas of a task with their places, in key order. `AllocError` where a growth was refused.
+    /// Returns the areas of a task with their places, in key order. `AllocError` if an allocation fails.
     pub fn places(&self, alloc: Global, task: Task) -> Result<Vec<Placed>, AllocError>
         ensures { IfOk result (λ places. (line : AreaLine) → self.now ≡ line_cuts line → places.items ≡ packed opening (list_by task line)) }
     {
         self.tasks[task.as_index()].places(alloc)
     }
 
-    /// The width in bits of an area in a task by its key, as `place` takes it; 0 where the task has no
-    /// such area. It takes no memory.
+    /// Returns the width in bits of an area in a task by its key, as `place` takes it; 0 if the task has no such area. It
+    /// allocates nothing.
     pub fn bits(&self, task: Task, key: Key) -> u16
         ensures { (line : AreaLine) → self.now ≡ line_cuts line → result ≡ width_in (list_by task line) key }
     {
         self.tasks[task.as_index()].bits(key)
     }
 
-    /// The place of an area in a task by its key, any key: the direction, the rank of the slave in
-    /// the line, and the area's place in the slave's record. The datagram of the task that carries it, and
-    /// its first bit there; none where the task has no such area. It is worked out from the widths and the
-    /// boundaries of the task. It takes no memory.
+    /// Returns the place of an area in a task by its key, which has the direction, the rank of the slave in the line, and the
+    /// area's index in the slave's record: the datagram of the task that carries it, and its first bit there. `None` if the
+    /// task has no such area. It is computed from the widths and the boundaries of the task. It allocates nothing.
     pub fn place(&self, task: Task, key: Key) -> Option<Placed>
         ensures { (line : AreaLine) → self.now ≡ line_cuts line → result ≡ place_of key (list_by task line) }
     {
         self.tasks[task.as_index()].place(key)
     }
 
-    /// A cursor before the first area of each task. It takes no memory.
+    /// Returns a cursor before the first area of each task. It allocates nothing.
     pub(crate) fn cursors(&self) -> [Cursor; 8]
         ensures { AreInTasks self.now result }
     {
@@ -220,8 +217,8 @@ impl LineCuts {
         [Cursor::start(); 8]
     }
 
-    /// The place of an area in a task, as `place` gives it, by cursors that are in the tasks and are in
-    /// them again. It takes no memory.
+    /// Returns the place of an area in a task, as `place` does, with the help of cursors that are in the tasks, and are in them
+    /// again afterwards. It allocates nothing.
     pub(crate) fn place_from(
         &self,
         cursors: &mut [Cursor; 8],
@@ -236,8 +233,7 @@ impl LineCuts {
         self.tasks[task].place_from(&mut cursors[task], key)
     }
 
-    /// A copy of the boundaries of the eight tasks, to be compared with later ones or put again. It takes no
-    /// memory.
+    /// Returns a copy of the boundaries of the eight tasks, to be compared with later ones or restored. It allocates nothing.
     pub fn copied_starts(&self) -> LineStarts
         ensures copy { result ≡ map (λ unchanged. unchanged.starts) self.now }
         ensures starts { (line : AreaLine) → self.now ≡ line_cuts line → AreStartsOf line result }

@@ -14,7 +14,7 @@ use crate::widths::{is_in_task, slave_width};
 use hc_records::keys::Key;
 use hc_records::records::{Area, Dir};
 
-/// Takes a key of a slave that had some areas and has others in, where its width differs.
+/// Adds a key of a slave that had some areas and gets others, if its width differs.
 fn touch_key(hulls: &mut Hulls, task: u8, key: Key, old: &[Area], new: &[Area])
     requires old { AreBounded old.now }
     requires new { AreBounded new.now }
@@ -26,8 +26,8 @@ fn touch_key(hulls: &mut Hulls, task: u8, key: Key, old: &[Area], new: &[Area])
     hulls.add(key);
 }
 
-/// Takes the keys of an output and of an input with a place in the record of a slave in, where their widths
-/// differ: none where the task has that area neither before nor after.
+/// Adds the keys of an output and of an input with an index in the record of a slave, if their widths differ: none if the task
+/// has that area neither before nor after.
 fn touch_area(hulls: &mut Hulls, task: u8, rank: u16, area: u8, old: &[Area], new: &[Area])
     requires old { AreBounded old.now }
     requires new { AreBounded new.now }
@@ -50,7 +50,7 @@ fn touch_area(hulls: &mut Hulls, task: u8, rank: u16, area: u8, old: &[Area], ne
     touch_key(hulls, task, input, old, new);
 }
 
-/// Takes the keys of a slave that had some areas and has others in, where their widths differ.
+/// Adds the keys of a slave that had some areas and gets others, if their widths differ.
 fn touch_slave(hulls: &mut Hulls, task: u8, rank: u16, old: &[Area], new: &[Area])
     requires old { AreBounded old.now }
     requires new { AreBounded new.now }
@@ -61,8 +61,8 @@ fn touch_slave(hulls: &mut Hulls, task: u8, rank: u16, old: &[Area], new: &[Area
     }
 }
 
-/// The hulls of the keys of a task, 0 to 7, that a change touches: the intervals from the least to the greatest output and input whose width differs. None
-/// where no width does. It takes no memory.
+/// Returns the hulls of the keys of a task, 0 to 7, that a change touches: the intervals from the least to the greatest output
+/// and input whose width differs. None if no width does. It allocates nothing.
 pub fn touched_hulls(task: u8, change: &LineChange) -> Hulls
     requires { HasLines change.now }
     ensures { (old new : AreaLine) → AreLines change.now old new → AreHulls (is_touched (list_by task old) (list_by task new)) result }

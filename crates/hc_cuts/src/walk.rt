@@ -15,8 +15,8 @@ use hc_bitsum::tree::SumTree;
 use hc_records::keys::Key;
 use std::alloc::{AllocError, Global};
 
-/// Adds areas with their places in the datagram with a number, which has room for all of them. The room for
-/// them is taken first; `AllocError` where a growth was refused.
+/// Appends areas with their places in the datagram with a number, into which all of them fit. Memory for them is reserved
+/// first; `AllocError` if an allocation fails.
 fn add_areas(
     places: &mut Vec<Placed>,
     areas: &[(Key, u16)],
@@ -39,8 +39,8 @@ fn add_areas(
     Ok(())
 }
 
-/// Adds the areas of a span, from a boundary to the next one, with their places in the datagram with a
-/// number. `AllocError` where a growth was refused; the places of the first areas may then be added.
+/// Appends the areas of a span, from a boundary to the next one, with their places in the datagram with a number. `AllocError`
+/// if an allocation fails; then the places of the first areas may be appended.
 pub(crate) fn add_span(
     alloc: Global,
     places: &mut Vec<Placed>,

@@ -1,4 +1,4 @@
-//! Tasks that take in more slaves: in the trees that they have, or in wider ones.
+//! Tasks that get more slaves, in the trees that they have or in wider ones.
 ghost use Rattle.std.specs.Prelude.{◌≡◌, ◌≤◌, All, IfOk, map};
 ghost use Rattle.hc_records.specs.declared.limits.TheConstants.{MOST_SLAVES};
 ghost use Rattle.hc_cuts.specs.Starts.{cuts_with_slaves};
@@ -7,7 +7,7 @@ ghost use Rattle.hc_cuts.specs.Room.{HasUnchangedRoom};
 use crate::cuts::Cuts;
 use std::alloc::{AllocError, Global};
 
-/// From now on each task has so many slaves; its tree has room for them.
+/// Extends each task to this many slaves, for which its tree has the capacity.
 pub(crate) fn admit_all(tasks: &mut [Cuts], slaves: u16)
     requires { All (HasUnchangedRoom slaves) tasks.old }
     ensures { tasks.new ≡ map (cuts_with_slaves slaves) tasks.old }
@@ -17,7 +17,7 @@ pub(crate) fn admit_all(tasks: &mut [Cuts], slaves: u16)
     }
 }
 
-/// The tasks in trees for so many slaves.
+/// Returns the tasks in trees for this many slaves.
 pub(crate) fn all_widened(
     alloc: Global,
     tasks: &[Cuts],

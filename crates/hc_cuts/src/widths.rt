@@ -1,4 +1,4 @@
-//! The widths of a task's areas, set where they differ between two lines.
+//! The widths of a task's areas, set if they differ between two lines.
 ghost use Rattle.std.specs.Prelude.{◌≡◌, ◌<◌, ◌≤◌, ◌==◌, ◌&&◌, false, if◌then◌else◌};
 ghost use Rattle.hc_bitsum.specs.Tree.{HasPlace, HoldsTaskList};
 ghost use Rattle.hc_records.specs.Boundaries.{width_in};
@@ -16,7 +16,7 @@ use crate::line_change::LineChange;
 use hc_records::keys::Key;
 use hc_records::records::{Area, Dir};
 
-/// The width of a key in a task, by the areas of its slave, in bits.
+/// Returns the width of a key in a task, by the areas of its slave, in bits.
 pub(crate) fn slave_width(areas: &[Area], task: u8, key: Key) -> u16
     requires { AreBounded areas.now }
     ensures value { result ≡ slave_width task areas.now key }
@@ -28,7 +28,7 @@ pub(crate) fn slave_width(areas: &[Area], task: u8, key: Key) -> u16
     }
 }
 
-/// Whether a slave with these areas has the one with a place in its record in a task.
+/// Returns whether a slave with these areas has the one with an index in its record in a task.
 pub(crate) fn is_in_task(areas: &[Area], task: u8, place: u8) -> bool
     ensures { result ≡ false → (key : Key) → key.area ≡ place → slave_width task areas.now key ≡ 0 }
 {
@@ -38,7 +38,7 @@ pub(crate) fn is_in_task(areas: &[Area], task: u8, place: u8) -> bool
     }
 }
 
-/// Sets the width of a key of a slave that had some areas and has others, where it differs.
+/// Sets the width of a key of a slave that had some areas and gets others, if it differs.
 fn set_key(cuts: &mut Cuts, task: u8, key: Key, old: &[Area], new: &[Area])
     requires place { HasPlace cuts.old.tree.slaves key }
     requires holds { HoldsTaskList cuts.old.tree }
@@ -54,8 +54,8 @@ fn set_key(cuts: &mut Cuts, task: u8, key: Key, old: &[Area], new: &[Area])
     cuts.set(key, bits);
 }
 
-/// Sets the widths of an output and of an input with a place in the record of a slave, where they
-/// differ: none where the task has that area neither before nor after.
+/// Sets the widths of an output and of an input with an index in the record of a slave, if they differ: none if the task has
+/// that area neither before nor after.
 fn set_area(cuts: &mut Cuts, task: u8, rank: u16, area: u8, old: &[Area], new: &[Area])
     requires first { 1 ≤ rank }
     requires last { rank ≤ cuts.old.tree.slaves }
@@ -83,7 +83,7 @@ fn set_area(cuts: &mut Cuts, task: u8, rank: u16, area: u8, old: &[Area], new: &
     set_key(cuts, task, input, old, new);
 }
 
-/// Sets the widths of a slave that had some areas and has others, where they differ.
+/// Sets the widths of a slave that had some areas and gets others, if they differ.
 fn set_slave(cuts: &mut Cuts, task: u8, rank: u16, old: &[Area], new: &[Area])
     requires first { 1 ≤ rank }
     requires last { rank ≤ cuts.old.tree.slaves }
@@ -98,7 +98,7 @@ fn set_slave(cuts: &mut Cuts, task: u8, rank: u16, old: &[Area], new: &[Area])
     }
 }
 
-/// Sets the widths of a task of a line to those that a change leads to, where they differ. It takes no memory.
+/// Sets the widths of a task of a line to those that a change leads to, if they differ. It allocates nothing.
 pub(crate) fn set_widths(cuts: &mut Cuts, task: u8, change: &LineChange)
     requires { HasTree task cuts.old.tree change.now }
     ensures { (old new : AreaLine) → AreLines change.now old new → cuts.old.tree ≡ tree_by task old → IsSetTo cuts.old cuts.new (width_at task new) }

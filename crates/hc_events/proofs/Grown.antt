@@ -11,8 +11,9 @@ use Rattle.hc_events.specs.Sendings.{Frame}
 use Rattle.hc_events.specs.Images.{new_answer_by}
 use Rattle.hc_events.specs.Changes.{Update, Swapped, Answered, updates_of}
 use Rattle.hc_events.specs.Owed.{is_in_line, owed_blocks}
+use Rattle.hc_events.specs.UnderWay.{further_blocks}
 use Rattle.hc_events.specs.Ready.{with_cleared}
-use Rattle.hc_events.specs.Steps.{Step, Edits, Posts, PostsSteady, SendsTasks, SendsWrite, Arrives, Reads, Forgets, SendsReady, Clears, Unplugs, unless_fault, edit_refused, clear_faults, forget_faults, ready_faults, unplug_faults, post_faults, post_steady_faults, proposal, task_faults, with_sent, write_faults, with_write, with_arrival, entries_after, entries_after_all, SendsWrites, with_writes}
+use Rattle.hc_events.specs.Steps.{Step, Edits, Posts, PostsSteady, SendsTasks, SendsWrite, Arrives, Reads, Forgets, SendsReady, Clears, Unplugs, unless_fault, edit_refused, clear_faults, forget_faults, ready_faults, unplug_faults, post_faults, post_steady_faults, proposal, task_faults, with_sent, write_faults, with_write, with_arrival, entries_after, entries_after_all, SendsFurther, SendsWrites, further_faults, with_writes}
 use Rattle.hc_events.specs.UpdatesLaws.{Grows}
 use Rattle.hc_events.specs.WriteFrames.{frame_blocks}
 
@@ -80,6 +81,9 @@ grows_after history (Clears station) =
     grows_if (updates_of history) (lowest (clear_faults history station)) history (with_cleared history station) (same (updates_of history)) (grows_cleared history station)
 grows_after history (Unplugs station) =
     grows_if (updates_of history) (lowest (unplug_faults history station)) history (Unplugged station ∷ history) (same (updates_of history)) (same (updates_of history))
+grows_after history SendsFurther =
+    grows_if (updates_of history) (lowest (further_faults history)) history (with_writes history (frame_blocks (further_blocks history))) (same (updates_of history))
+    (grows_writes history (frame_blocks (further_blocks history)))
 
 pub updates-grow : (history : History) (steps : List Step) → Grows (updates_of history) (updates_of (entries_after_all history steps))
 updates-grow history [] = same (updates_of history)

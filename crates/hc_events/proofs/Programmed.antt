@@ -13,9 +13,10 @@ use Rattle.hc_events.specs.AnswerLaws.{sends_ready, sent_programmed}
 use Rattle.hc_events.specs.Arrivals.{Arrival, arrival_in}
 use Rattle.hc_events.specs.Entries.{History, Edited, Posted, Sent, Forgot, Cleared, Unplugged}
 use Rattle.hc_events.specs.Owed.{is_in_line, owed_blocks}
+use Rattle.hc_events.specs.UnderWay.{further_blocks}
 use Rattle.hc_events.specs.Ready.{with_cleared}
 use Rattle.hc_events.specs.Sendings.{Frame}
-use Rattle.hc_events.specs.Steps.{Step, Edits, Posts, PostsSteady, SendsTasks, SendsWrite, SendsWrites, Arrives, Reads, Forgets, SendsReady, Clears, Unplugs, clear_faults, edit_refused, entries_after, entries_after_all, forget_faults, post_faults, post_steady_faults, proposal, task_faults, unless_fault, unplug_faults, with_arrival, with_sent, with_write, with_writes, write_faults}
+use Rattle.hc_events.specs.Steps.{Step, Edits, Posts, PostsSteady, SendsTasks, SendsWrite, SendsWrites, Arrives, Reads, Forgets, SendsReady, Clears, Unplugs, SendsFurther, clear_faults, edit_refused, entries_after, entries_after_all, forget_faults, further_faults, post_faults, post_steady_faults, proposal, task_faults, unless_fault, unplug_faults, with_arrival, with_sent, with_write, with_writes, write_faults}
 use Rattle.hc_events.specs.WriteFrames.{frame_blocks}
 use Rattle.hc_events.proofs.lemmas.Accepted.{nothing_owed}
 
@@ -65,6 +66,8 @@ one_step history (SendsReady tasks) other before = cc
 one_step history (Clears station) other before =
     if_accepted (lowest (clear_faults history station)) history (with_cleared history station) (λ e. either (is_in_line history station) (Cleared station ∷ Forgot station ∷ history) (Cleared station ∷ history) before before) before
 one_step history (Unplugs station) other before = if_accepted (lowest (unplug_faults history station)) history (Unplugged station ∷ history) (λ e. before) before
+one_step history SendsFurther other before =
+    if_accepted (lowest (further_faults history)) history (with_writes history (frame_blocks (further_blocks history))) (λ e. wrote_several history (frame_blocks (further_blocks history)) before) before
 
 all_steps : (history : History) (steps : List Step) → list_any sends_ready steps ≡ false → IsProgrammed history → IsProgrammed (entries_after_all history steps)
 all_steps history [] other before = before

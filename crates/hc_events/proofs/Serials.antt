@@ -10,7 +10,7 @@ use Rattle.hc_registers.specs.Blocks.{LineBlock}
 use Rattle.hc_frames.specs.declared.limits.TheConstants.{SETUP_SERIAL}
 use Rattle.hc_frames.specs.declared.reading.faults.FrameFault.{FrameFault}
 use Rattle.hc_events.specs.declared.faults.CoreFault.{CoreFault}
-use Rattle.hc_events.specs.declared.faults.CoreFault.TheVariants.{NoSuchTask, NothingOwed, SerialsSpent, Unprogrammed}
+use Rattle.hc_events.specs.declared.faults.CoreFault.TheVariants.{NoSuchTask, NothingOwed, SerialsSpent, UnderWay, Unprogrammed}
 use Rattle.hc_events.specs.Arrivals.{Arrival, arrival_in}
 use Rattle.hc_events.specs.Entries.{HistoryEntry, History, Opened, Edited, Posted, Sent, Wrote, Came, Forgot, Cleared, Unplugged}
 use Rattle.hc_events.specs.Points.{line_of, next_serial}
@@ -18,8 +18,9 @@ use Rattle.hc_events.specs.Sendings.{Frame}
 use Rattle.hc_events.specs.Heads.{data_heads, write_heads}
 use Rattle.hc_events.specs.Answering.{Sending, sending_of_heads, followed_by, sending_of}
 use Rattle.hc_events.specs.Owed.{is_in_line, owed_blocks}
+use Rattle.hc_events.specs.UnderWay.{further_blocks}
 use Rattle.hc_events.specs.Ready.{with_cleared}
-use Rattle.hc_events.specs.Steps.{Step, Edits, Posts, PostsSteady, SendsTasks, SendsWrite, Arrives, Reads, Forgets, SendsReady, Clears, Unplugs, clear_faults, forget_faults, ready_faults, unplug_faults, unless_fault, edit_refused, has_serials, is_no_task, post_faults, post_steady_faults, proposal, task_faults, with_sent, write_faults, with_write, with_arrival, entries_after, entries_after_all, SendsWrites, with_writes}
+use Rattle.hc_events.specs.Steps.{Step, Edits, Posts, PostsSteady, SendsTasks, SendsWrite, Arrives, Reads, Forgets, SendsReady, Clears, Unplugs, clear_faults, forget_faults, ready_faults, unplug_faults, unless_fault, edit_refused, has_serials, is_no_task, post_faults, post_steady_faults, proposal, task_faults, with_sent, write_faults, with_write, with_arrival, entries_after, entries_after_all, SendsFurther, SendsWrites, further_faults, with_writes}
 use Rattle.hc_events.specs.Accepted.{just_opened, history_of}
 use Rattle.hc_events.proofs.lemmas.Accepted.{passed, ready-passed}
 use Rattle.hc_events.proofs.lemmas.Once.{serial-below}
@@ -142,6 +143,15 @@ left_writes history blocks (block ∷ more) e before =
     let second = passed (not (has_serials history 1)) SerialsSpent [] first.1 in
     enough (next_serial history) 1 (not-false _ second.0)
 
+left_further : (history : History) (more : List LineBlock) → lowest (further_faults history) ≡ None → Left history → Left (with_writes history more)
+left_further history [] e before = before
+left_further history (block ∷ more) e before =
+    let serials : List (Bool × CoreFault) = (not (has_serials history 1), SerialsSpent) ∷ [] in
+    let first = passed (length (owed_blocks history) == 0) NothingOwed ((length (further_blocks history) == 0, UnderWay) ∷ serials) e in
+    let second = passed (length (further_blocks history) == 0) UnderWay serials first.1 in
+    let third = passed (not (has_serials history 1)) SerialsSpent [] second.1 in
+    enough (next_serial history) 1 (not-false _ third.0)
+
 left_arrival : (history : History) (read : Result Arrival FrameFault) → Left history → Left (with_arrival history read)
 left_arrival history (Err fault) before = before
 left_arrival history (Ok arrival) before = before
@@ -164,6 +174,9 @@ left_after history (SendsReady tasks) before = left_if (lowest (ready_faults his
 left_after history (Clears station) before =
     left_if (lowest (clear_faults history station)) history (with_cleared history station) (λ e. left_either (is_in_line history station) (Cleared station ∷ Forgot station ∷ history) (Cleared station ∷ history) before before) before
 left_after history (Unplugs station) before = left_if (lowest (unplug_faults history station)) history (Unplugged station ∷ history) (λ e. before) before
+left_after history SendsFurther before =
+    left_if (lowest (further_faults history)) history (with_writes history (frame_blocks (further_blocks history)))
+    (λ e. left_further history (frame_blocks (further_blocks history)) e before) before
 
 left_after_all : (history : History) (steps : List Step) → Left history → Left (entries_after_all history steps)
 left_after_all history [] before = before

@@ -35,6 +35,7 @@ pub mod Returns
 pub mod Steady
 pub mod SteadyPosts
 pub mod TwoWrites
+pub mod UnderWay
 pub mod Unchanged
 pub mod Undeclared
 pub mod Undisturbed

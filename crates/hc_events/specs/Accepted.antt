@@ -13,6 +13,7 @@ use Rattle.hc_events.specs.Points.{line_of, next_serial, opened_with, state_of}
 use Rattle.hc_events.specs.Sendings.{Named, sendings_of}
 use Rattle.hc_events.specs.Owed.{is_in_line, last_write, owed_blocks}
 use Rattle.hc_events.specs.Ready.{is_ready}
+use Rattle.hc_events.specs.UnderWay.{further_blocks}
 use Rattle.hc_events.specs.WriteFrames.{frame_blocks}
 use Rattle.hc_events.specs.Steps.{Step, entries_after_all}
 
@@ -43,9 +44,21 @@ pub record IsFirst (block : LineBlock) (blocks : List LineBlock) : Type 0 where
   pub first : blocks ≡ block ∷ rest
 
 -- register blocks that one frame writes while these are owed: the first of them alone, or the first ones, as many as one frame holds
-pub record IsWrite (owed blocks : List LineBlock) : Type 0 where
+abbrev pub IsFirstWrite : List LineBlock → List LineBlock → Type 0
+IsFirstWrite owed blocks = (blocks ≡ take 1 owed) ⊎ (blocks ≡ frame_blocks owed)
+
+-- register blocks that one frame writes: the first of the owed ones, one or more, or the first ones that aren't under way, as many as one frame holds
+pub record IsWrite (history : History) (blocks : List LineBlock) : Type 0 where
   pub some : 0 < length blocks
-  pub first : (blocks ≡ take 1 owed) ⊎ (blocks ≡ frame_blocks owed)
+  pub first : IsFirstWrite (owed_blocks history) blocks ⊎ (blocks ≡ frame_blocks (further_blocks history))
+
+-- the frame with a serial, if it is one of register writes, carries the first owed block, or the first ones
+abbrev pub carries_first : History → ℕ → Type 0
+carries_first [] serial = Unit {0}
+carries_first (Opened groups ∷ history) serial = Unit {0}
+carries_first (Wrote blocks ∷ history) serial =
+    (next_serial history ≡ serial → IsFirstWrite (owed_blocks history) blocks) × carries_first history serial
+carries_first (entry ∷ history) serial = carries_first history serial
 
 -- a declared slave is cleared; where it is in the line it was forgotten first, so none of its writes counts
 pub record IsClearing (history : History) (station : ℕ) : Type 0 where
@@ -63,7 +76,7 @@ IsAccepted history (Opened groups) = ⊥
 IsAccepted history (Edited edit) = lowest (edit_faults (state_of history) edit) ≡ None
 IsAccepted history (Posted task bytes) = IsPost (line_of history) task bytes
 IsAccepted history (Sent frame) = IsFrame history frame
-IsAccepted history (Wrote blocks) = IsWrite (owed_blocks history) blocks
+IsAccepted history (Wrote blocks) = IsWrite history blocks
 IsAccepted history (Came arrival) = Unit {0}
 IsAccepted history (Forgot station) = is_in_line history station ≡ true
 IsAccepted history (Cleared station) = IsClearing history station

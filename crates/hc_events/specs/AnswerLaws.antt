@@ -20,7 +20,7 @@ use Rattle.hc_events.specs.Awaited.{awaited, is_write_sending}
 use Rattle.hc_events.specs.Images.{NewAnswer, new_answer_by}
 use Rattle.hc_events.specs.Owed.{owed_blocks}
 use Rattle.hc_events.specs.Steps.{Arrives, SendsReady, Step, answer_to, sent_datagram, judged_answer}
-use Rattle.hc_events.specs.Accepted.{IsReachable, IsInLine, history_of}
+use Rattle.hc_events.specs.Accepted.{IsReachable, IsInLine, carries_first, history_of}
 use Rattle.hc_events.specs.SendingLaws.{IsSendingAt, heads_of}
 use Rattle.hc_events.specs.Forgetting.{writes_one}
 use Rattle.hc_events.specs.WriteFrames.{block_datagram}
@@ -96,18 +96,18 @@ pub record IsBesideOne (older newer : Sending) : Type 0 where
   pub one : length newer.heads ≡ 1
   pub more : 1 < length older.heads
 
--- so it is with any two that are awaited: each later frame of several blocks carries all that is awaited, and so does a single write where a single write is. So at most two are awaited, no two of them of several blocks
+-- so it is with any two that are awaited and carry the first owed blocks, whatever further frames were sent beside them: each later frame of several blocks carries all that is awaited of such a frame, and so does a single write where a single write is. So at most two of them are awaited, no two of them of several blocks
 abbrev pub TwoWritesAreAwaited : Type 0
 TwoWritesAreAwaited =
-    (history : History) (low high : ℕ) (older newer : Sending) → IsReachable history → HasOwnNames (line_of history) → low < high
+    (history : History) (low high : ℕ) (older newer : Sending) → IsReachable history → HasOwnNames (line_of history) → carries_first history low → carries_first history high → low < high
     → awaited history low ≡ Some older → is_write_sending older ≡ true → awaited history high ≡ Some newer → is_write_sending newer ≡ true
     → IsBesideOne older newer
 
--- where each register write was sent in a frame of its own, no other write is awaited beside one
+-- where each register write was sent in a frame of its own, of two that carry the first owed block only one is awaited
 abbrev pub OneWriteIsAwaited : Type 0
 OneWriteIsAwaited =
     (history : History) (serial other : ℕ) (write sending : Sending) → IsReachable history → HasOwnNames (line_of history)
-    → list_all writes_one history ≡ true → awaited history serial ≡ Some write → is_write_sending write ≡ true
+    → carries_first history serial → carries_first history other → list_all writes_one history ≡ true → awaited history serial ≡ Some write → is_write_sending write ≡ true
     → awaited history other ≡ Some sending → is_write_sending sending ≡ true → other ≡ serial
 
 -- a frame of register writes has 74 datagrams at most

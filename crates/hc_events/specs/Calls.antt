@@ -7,7 +7,7 @@ use Rattle.hc_records.specs.Image.{datagram_count, task_places}
 use Rattle.hc_registers.specs.Blocks.{LineBlock}
 use Rattle.hc_frames.specs.Sizes.{frame_bytes}
 use Rattle.hc_events.specs.declared.answer.Answer.{Answer}
-use Rattle.hc_events.specs.Steps.{sent_text, Step, Posts, PostsSteady, Forgets, Clears, Unplugs, answer_to, entries_after, has_serials, proposal, ready_faults, task_faults, write_faults}
+use Rattle.hc_events.specs.Steps.{sent_text, Step, Posts, PostsSteady, Forgets, Clears, Unplugs, answer_to, entries_after, has_serials, further_faults, proposal, ready_faults, task_faults, write_faults}
 use Rattle.hc_events.specs.declared.answer.Answer.TheVariants as answer
 use Rattle.hc_events.specs.declared.faults.CoreFault.{CoreFault}
 use Rattle.hc_events.specs.declared.faults.CoreFault.TheVariants.{Memory, Room}
@@ -15,6 +15,7 @@ use Rattle.hc_events.specs.Entries.{History}
 use Rattle.hc_events.specs.Points.{line_of, next_serial}
 use Rattle.hc_events.specs.Sendings.{Frame, frame_of_one, line_data_length, sent_frame_size}
 use Rattle.hc_events.specs.Owed.{owed_blocks}
+use Rattle.hc_events.specs.UnderWay.{further_blocks}
 use Rattle.hc_events.specs.WriteFrames.{frame_blocks, writes_size}
 
 -- an event takes memory for what it answers or for what is kept after it; a post takes none, steady or not, since the room for its values was taken at the opening or by an accepted edit; forgetting a slave's registers takes none, nor does clearing or unplugging a slave
@@ -57,6 +58,10 @@ write_into_faults history bytes = write_faults history (owed_blocks history) ++ 
 -- the frame that writes the first of the owed blocks, as many as it holds, goes into a slice of so many bytes: refused in the same way
 abbrev pub write_all_into_faults : History → ℕ → List (Bool × CoreFault)
 write_all_into_faults history bytes = write_faults history (owed_blocks history) ++ room_faults (writes_size (frame_blocks (owed_blocks history))) bytes
+
+-- the frame that writes the first owed blocks that aren't under way, as many as it holds, goes into a slice of so many bytes: refused in the same way
+abbrev pub further_into_faults : History → ℕ → List (Bool × CoreFault)
+further_into_faults history bytes = further_faults history ++ room_faults (writes_size (frame_blocks (further_blocks history))) bytes
 
 -- the bytes of the frames where tasks are sent
 abbrev pub frames_size : History → List ℕ → ℕ

@@ -6,10 +6,10 @@ use Rattle.hc_records.specs.declared.faults.EditFault.TheVariants as edit
 use Rattle.hc_frames.specs.declared.reading.faults.FrameFault.{FrameFault}
 use Rattle.hc_frames.specs.Arrived.{fault_number}
 use Rattle.hc_events.specs.declared.faults.CoreFault.{CoreFault}
-use Rattle.hc_events.specs.declared.faults.CoreFault.TheVariants.{StalePost, PostLength, Unprogrammed, NothingOwed, SerialsSpent, Memory, Room, Waits}
+use Rattle.hc_events.specs.declared.faults.CoreFault.TheVariants.{StalePost, PostLength, Unprogrammed, NothingOwed, SerialsSpent, Memory, Room, Waits, UnderWay}
 use Rattle.hc_events.specs.Faults.{core_fault_number, edit_refusal, frame_refusal}
 
--- 1 to 13, and 30 to 35, are the numbers that edits' faults have, 15 to 19 the core's own, 20 to 27 those of frames' faults from 1 on, 28 `Memory`, 29 `Room`, 36 `Waits`
+-- 1 to 13, and 30 to 35, are the numbers that edits' faults have, 15 to 19 the core's own, 20 to 27 those of frames' faults from 1 on, 28 `Memory`, 29 `Room`, 36 `Waits`, 37 `UnderWay`
 pub record AreNumbered (owed needed : ℕ) : Type 0 where
   pub edits : (fault : EditFault) → fault ≢ edit.Memory → core_fault_number (edit_refusal fault) ≡ edit_fault_number fault
   pub own :
@@ -19,6 +19,7 @@ pub record AreNumbered (owed needed : ℕ) : Type 0 where
   pub memory : core_fault_number (edit_refusal edit.Memory) ≡ 28
   pub wants : map core_fault_number (Memory ∷ Room needed ∷ []) ≡ 28 ∷ 29 ∷ []
   pub waits : (task blocks outside : ℕ) → core_fault_number (Waits task blocks outside) ≡ 36
+  pub under_way : core_fault_number UnderWay ≡ 37
   pub unused : (fault : CoreFault) → core_fault_number fault ≢ 14
 
 -- the core's faults have just these numbers

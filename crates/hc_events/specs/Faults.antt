@@ -5,7 +5,7 @@ use Rattle.hc_records.specs.declared.faults.EditFault.TheVariants as edit
 use Rattle.hc_frames.specs.declared.reading.faults.FrameFault.{FrameFault}
 use Rattle.hc_frames.specs.declared.reading.faults.FrameFault.TheVariants as frame
 use Rattle.hc_events.specs.declared.faults.CoreFault.{CoreFault}
-use Rattle.hc_events.specs.declared.faults.CoreFault.TheVariants.{UnknownAlias, AlreadyPresent, NotPresent, Mandatory, UnknownStation, Absent, NoSuchArea, NoSuchTask, UnknownPdo, RepeatedPdo, AreaTooBig, TooManyDatagrams, EpochsSpent, StalePost, PostLength, Unprogrammed, NothingOwed, SerialsSpent, Short, NotEtherCat, BadType, BadLength, Circulating, MoreFollows, UnknownCommand, IndexMismatch, Memory, Room, BadGroup, AliasTaken, StationTaken, VariableTaken, TooManyGroups, TooManySlaves, Waits}
+use Rattle.hc_events.specs.declared.faults.CoreFault.TheVariants.{UnknownAlias, AlreadyPresent, NotPresent, Mandatory, UnknownStation, Absent, NoSuchArea, NoSuchTask, UnknownPdo, RepeatedPdo, AreaTooBig, TooManyDatagrams, EpochsSpent, StalePost, PostLength, Unprogrammed, NothingOwed, SerialsSpent, Short, NotEtherCat, BadType, BadLength, Circulating, MoreFollows, UnknownCommand, IndexMismatch, Memory, Room, BadGroup, AliasTaken, StationTaken, VariableTaken, TooManyGroups, TooManySlaves, Waits, UnderWay}
 
 -- 14 is the number of no fault: `Memory` has its own here
 abbrev pub core_fault_number : CoreFault → ℕ
@@ -44,6 +44,7 @@ core_fault_number VariableTaken = 33
 core_fault_number TooManyGroups = 34
 core_fault_number TooManySlaves = 35
 core_fault_number (Waits task blocks outside) = 36
+core_fault_number UnderWay = 37
 
 -- a refused edit is refused by the fault of the same name
 abbrev pub edit_refusal : EditFault → CoreFault

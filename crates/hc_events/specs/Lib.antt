@@ -13,6 +13,7 @@ pub mod Holding
 pub mod Ready
 pub mod Steady
 pub mod WriteFrames
+pub mod UnderWay
 pub mod Changes
 pub mod Exact
 pub mod Steps
@@ -22,6 +23,7 @@ pub mod WorkedAxis
 pub mod WorkedRecords
 pub mod WorkedWrites
 pub mod WorkedWriteFrames
+pub mod WorkedFurther
 pub mod WorkedFrames
 pub mod WorkedArrivals
 pub mod WorkedForgetting
@@ -44,6 +46,7 @@ pub mod ViewLaws
 pub mod FaultLaws
 pub mod CallLaws
 pub mod WriteLaws
+pub mod UnderWayLaws
 pub mod ReadyLaws
 pub mod SteadyLaws
 pub mod WorkedLimits

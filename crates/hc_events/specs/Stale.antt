@@ -10,6 +10,7 @@ use Rattle.hc_events.specs.Owed.{known_bytes}
 use Rattle.hc_events.specs.Holding.{is_unplugged, may_hold}
 use Rattle.hc_events.specs.Ages.{data_serial}
 use Rattle.hc_events.specs.Steady.{steady_data, task_epoch}
+use Rattle.hc_events.specs.UnderWay.{is_under_way}
 use Rattle.hc_events.specs.Changes.{updates_of}
 use Rattle.hc_events.specs.Steps.{Step, Arrives, answers_to, entries_after, entries_after_all}
 
@@ -20,8 +21,8 @@ without_stale (Came arrival ∷ history) =
     if is_stale_to history arrival then without_stale history else Came arrival ∷ without_stale history
 without_stale (entry ∷ history) = entry ∷ without_stale history
 
--- two records say the same of the line, the epoch, the next serial, the input images and the serials of their data, the output values, the known bytes, what the registers may hold, the slaves that are
--- unplugged, the tasks' epochs and steady data, and the updates
+-- two records say the same of the line, the epoch, the next serial, the input images and the serials of their data, the output values, the known bytes, the register blocks that are under way, what the
+-- registers may hold, the slaves that are unplugged, the tasks' epochs and steady data, and the updates
 pub record SaysTheSame (a b : History) : Type 0 where
   pub state : state_of a ≡ state_of b
   pub epoch : epoch_of a ≡ epoch_of b
@@ -30,6 +31,7 @@ pub record SaysTheSame (a b : History) : Type 0 where
   pub dates : (task d : ℕ) → data_serial a task d ≡ data_serial b task d
   pub values : (variable k : ℕ) → value_bit a variable k ≡ value_bit b variable k
   pub known : (station number : ℕ) → known_bytes a station number ≡ known_bytes b station number
+  pub under_way : (station number : ℕ) → is_under_way a station number ≡ is_under_way b station number
   pub held : (station number : ℕ) → may_hold a station number ≡ may_hold b station number
   pub unplugged : (station : ℕ) → is_unplugged a station ≡ is_unplugged b station
   pub epochs : (task : ℕ) → task_epoch a task ≡ task_epoch b task

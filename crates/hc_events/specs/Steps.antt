@@ -17,7 +17,7 @@ use Rattle.hc_events.specs.declared.answer.Outcome.TheVariants as outcome
 use Rattle.hc_events.specs.declared.event.Event.{Event}
 use Rattle.hc_events.specs.declared.event.Event.TheVariants as event
 use Rattle.hc_events.specs.declared.faults.CoreFault.{CoreFault}
-use Rattle.hc_events.specs.declared.faults.CoreFault.TheVariants.{Absent, AlreadyPresent, NoSuchTask, NothingOwed, PostLength, SerialsSpent, StalePost, UnknownStation, Unprogrammed, Waits}
+use Rattle.hc_events.specs.declared.faults.CoreFault.TheVariants.{Absent, AlreadyPresent, NoSuchTask, NothingOwed, PostLength, SerialsSpent, StalePost, UnderWay, UnknownStation, Unprogrammed, Waits}
 use Rattle.hc_frames.specs.declared.limits.TheConstants.{SETUP_SERIAL}
 use Rattle.hc_frames.specs.declared.reading.faults.FrameFault.{FrameFault}
 use Rattle.hc_events.specs.Faults.{edit_refusal, frame_refusal}
@@ -32,6 +32,7 @@ use Rattle.hc_events.specs.Outputs.{sent_data}
 use Rattle.hc_events.specs.Owed.{is_in_line, owed_blocks}
 use Rattle.hc_events.specs.Ready.{is_ready, waited_for, waited_for_outside, with_cleared}
 use Rattle.hc_events.specs.Steady.{task_epoch}
+use Rattle.hc_events.specs.UnderWay.{further_blocks}
 use Rattle.hc_events.specs.WriteFrames.{frame_blocks, writes_text}
 
 -- an event, without where it lies in memory
@@ -48,6 +49,7 @@ pub data Step : Type 0 where
   SendsReady : List ℕ → Step
   Clears : ℕ → Step
   Unplugs : ℕ → Step
+  SendsFurther : Step
 
 -- a refusal, or else this answer; the record unchanged, or else this one
 abbrev pub unless : Option CoreFault → Answer → Answer
@@ -179,6 +181,16 @@ abbrev pub with_writes : History → List LineBlock → History
 with_writes history [] = history
 with_writes history (block ∷ blocks) = Wrote (block ∷ blocks) ∷ history
 
+-- a further frame of register writes: the first owed blocks that aren't under way, as many as it holds; it is answered as a frame of the first owed blocks is
+
+-- what refuses it, in order: 18 nothing is owed, 37 each owed block is under way, 19 no serial is left
+abbrev pub further_faults : History → List (Bool × CoreFault)
+further_faults history =
+    (length (owed_blocks history) == 0, NothingOwed)
+    ∷ (length (further_blocks history) == 0, UnderWay)
+    ∷ (not (has_serials history 1), SerialsSpent)
+    ∷ []
+
 -- an arrival: what it is for each datagram of the tasks, or for each register write; stale where it answers no sending or each datagram is stale
 
 -- what is said of a good datagram: the inputs of a task's datagram, or that a register block's write is done
@@ -277,6 +289,7 @@ step_of (event.Forget station) = Forgets station
 step_of (event.SendReady tasks) = SendsReady tasks.now
 step_of (event.Cleared station) = Clears station
 step_of (event.Unplugged station) = Unplugs station
+step_of event.SendFurther = SendsFurther
 
 -- the answer to an event; of several refusals the first that holds
 abbrev pub answer_to : History → Step → Answer
@@ -292,6 +305,7 @@ answer_to history (Forgets station) = unless (lowest (forget_faults history stat
 answer_to history (SendsReady tasks) = unless (lowest (ready_faults history tasks)) (answer.Sent (map (sent_text history) (proposal history tasks)))
 answer_to history (Clears station) = unless (lowest (clear_faults history station)) answer.Cleared
 answer_to history (Unplugs station) = unless (lowest (unplug_faults history station)) answer.Unplugged
+answer_to history SendsFurther = unless (lowest (further_faults history)) (writes_answer (next_serial history) (frame_blocks (further_blocks history)))
 
 -- the record with what was accepted; a refused event leaves it as it was, and a read too
 abbrev pub entries_after : History → Step → History
@@ -307,6 +321,7 @@ entries_after history (Forgets station) = unless_fault (lowest (forget_faults hi
 entries_after history (SendsReady tasks) = unless_fault (lowest (ready_faults history tasks)) history (with_sent history (proposal history tasks))
 entries_after history (Clears station) = unless_fault (lowest (clear_faults history station)) history (with_cleared history station)
 entries_after history (Unplugs station) = unless_fault (lowest (unplug_faults history station)) history (Unplugged station ∷ history)
+entries_after history SendsFurther = unless_fault (lowest (further_faults history)) history (with_writes history (frame_blocks (further_blocks history)))
 
 -- the answers to a list of events, each after those before it, and the record that all of them leave
 abbrev pub answers_to : History → List Step → List Answer

@@ -22,13 +22,15 @@ use Rattle.hc_events.specs.WriteFrames.{frame_blocks}
 abbrev one_written : History
 one_written = entries_after_all opened (SendsWrite ∷ write_back 0 0x0810 8 1 ∷ [])
 
-abbrev three_writes : ℕ → List ℕ
-three_writes serial =
-    head_of serial 0x4c
-    ++ 0x05 ∷ serial ∷ 0xe9 ∷ 0x03 ∷ 0x00 ∷ 0x06 ∷ 0x10 ∷ 0x80 ∷ 0 ∷ 0 ∷ output_fmmu
+abbrev pub three_datagrams : ℕ → List ℕ
+three_datagrams serial =
+    0x05 ∷ serial ∷ 0xe9 ∷ 0x03 ∷ 0x00 ∷ 0x06 ∷ 0x10 ∷ 0x80 ∷ 0 ∷ 0 ∷ output_fmmu
     ++ 0 ∷ 0 ∷ 0x05 ∷ serial ∷ 0xe9 ∷ 0x03 ∷ 0x18 ∷ 0x08 ∷ 0x08 ∷ 0x80 ∷ 0 ∷ 0 ∷ input_sync
     ++ 0 ∷ 0 ∷ 0x05 ∷ serial ∷ 0xe9 ∷ 0x03 ∷ 0x10 ∷ 0x06 ∷ 0x10 ∷ 0x00 ∷ 0 ∷ 0 ∷ input_fmmu
     ++ 0 ∷ 0 ∷ []
+
+abbrev pub three_writes : ℕ → List ℕ
+three_writes serial = head_of serial 0x4c ++ three_datagrams serial
 
 three_in_one_frame : answer_to one_written SendsWrites ≡ answer.WritesSent (three_writes 1)
 unfolding bit_of number_of starts_within
@@ -38,7 +40,7 @@ three_in_one_frame = refl
 abbrev three_parts : ℕ → ℕ → ℕ → List Part
 three_parts first second third = written_at 1001 0x0600 16 first ∷ written_at 1001 0x0818 8 second ∷ written_at 1001 0x0610 16 third ∷ []
 
-abbrev three_back : ℕ → ℕ → ℕ → ℕ → Step
+abbrev pub three_back : ℕ → ℕ → ℕ → ℕ → Step
 three_back serial first second third = back serial (three_parts first second third)
 
 -- Each block is done by its own counter, and after that nothing is owed; the frame is answered once.
@@ -110,13 +112,13 @@ other_frames = refl
 abbrev byte_slave : ℕ → ℕ → Slave
 byte_slave station variable = record { station = station; areas = area_of 2 Out 0x1100 0x1600 variable 8 ∷ [] }
 
-abbrev two_slaves : History
+abbrev pub two_slaves : History
 two_slaves = Opened (record { alias = 0; slaves = byte_slave 1001 1 ∷ byte_slave 1002 2 ∷ [] } ∷ []) ∷ []
 
-abbrev four_back : ℕ → Step
+abbrev pub four_back : ℕ → Step
 four_back serial = back serial (written_at 1001 0x0810 8 1 ∷ written_at 1001 0x0600 16 1 ∷ written_at 1002 0x0810 8 1 ∷ written_at 1002 0x0600 16 1 ∷ [])
 
-abbrev all_four : History
+abbrev pub all_four : History
 all_four = entries_after_all two_slaves (SendsWrites ∷ [])
 
 forgotten_in_between : answers_to all_four (Forgets 1001 ∷ four_back 0 ∷ [])

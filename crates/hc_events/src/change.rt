@@ -1,4 +1,4 @@
-//! What a reader of the input images gets, in order.
+//! Changes of the input images, in order, for their readers.
 ghost use Rattle.std.specs.Prelude.{◌≡◌, ◌<◌, ◌≤◌, length};
 ghost use Rattle.hc_records.specs.declared.limits.TheConstants.{MOST_DATAGRAMS, MOST_DATAGRAM_BYTES, TASKS};
 
@@ -6,8 +6,8 @@ use hc_places::swap::Swap;
 use hc_records::items::Items;
 use std::marker::Model;
 
-/// The good answer of a datagram: a task, 0 to 7, the datagram's number in it, 0 to 15, and its data, at most
-/// 1,486 bytes. So an input image takes it whatever else it holds.
+/// The good answer of a datagram: a task, 0 to 7, the datagram's number in it, 0 to 15, and its data, at most 1,486 bytes.
+/// Every input image can store it.
 #[derive(Debug, Drop)]
 pub struct GoodAnswer {
     task: u8,
@@ -26,7 +26,7 @@ impl Model for GoodAnswer {
 }
 
 impl GoodAnswer {
-    /// The answer of a task's datagram with these data. It takes no memory.
+    /// Returns the good answer of a task's datagram with these data. It allocates nothing.
     pub fn of(task: u8, datagram: u8, bytes: Items<u8>) -> GoodAnswer
         requires task { task < TASKS }
         requires datagram { datagram < MOST_DATAGRAMS }
@@ -40,7 +40,7 @@ impl GoodAnswer {
         }
     }
 
-    /// The task, 0 to 7.
+    /// Returns the task, 0 to 7.
     pub fn task(&self) -> u8
         ensures value { result ≡ self.now.task }
         ensures below { result < TASKS }
@@ -48,7 +48,7 @@ impl GoodAnswer {
         self.task
     }
 
-    /// The datagram's number in the task, 0 to 15.
+    /// Returns the datagram's number in the task, 0 to 15.
     pub fn datagram(&self) -> u8
         ensures value { result ≡ self.now.datagram }
         ensures below { result < MOST_DATAGRAMS }
@@ -56,7 +56,7 @@ impl GoodAnswer {
         self.datagram
     }
 
-    /// The data, as many bytes as the datagram has, at most 1,486.
+    /// Returns the data, as many bytes as the datagram has, at most 1,486.
     pub fn bytes(&self) -> &[u8]
         ensures value { result.now ≡ self.now.bytes }
         ensures few { length result.now ≤ MOST_DATAGRAM_BYTES }
@@ -64,7 +64,7 @@ impl GoodAnswer {
         self.bytes.as_slice()
     }
 
-    /// The data as a list of their own, in the same memory: who is done with an answer fills it with the next one's.
+    /// Returns the data as a list of their own, in the same memory, which the next answer can use.
     pub fn into_bytes(self) -> Items<u8>
         ensures { result ≡ self.bytes }
     {
@@ -80,7 +80,7 @@ impl GoodAnswer {
 /// A change of what tasks read.
 #[derive(Debug, Drop)]
 pub enum Change {
-    /// An edit was accepted: a new epoch with its places, where no datagram has an answer yet.
+    /// An edit was accepted: a new epoch with its places, in which no datagram has an answer yet.
     Swapped(Swap),
     /// A datagram has a good answer.
     Good(GoodAnswer),

@@ -1,5 +1,4 @@
-//! Why the core refuses an event. A fault's number is part of the program's printed words and never
-//! changes.
+//! Faults of events. A fault's number is part of the program's printed words and never changes.
 ghost use Rattle.std.specs.Prelude.{◌≡◌};
 ghost use Rattle.hc_events.specs.Faults.{core_fault_number};
 
@@ -9,7 +8,7 @@ use hc_records::faults::{EditFault, ProjectFault};
 use std::alloc::AllocError;
 use thiserror::Error;
 
-/// Why an event is refused.
+/// The reason for which an event is refused.
 #[derive(Clone, Copy, Debug, PartialEq, Eq, Error)]
 pub enum CoreFault {
     /// No group has the alias.
@@ -18,16 +17,16 @@ pub enum CoreFault {
     /// The group is in the line already.
     #[error("the group is present already")]
     AlreadyPresent,
-    /// The group isn't in the line.
+    /// The group is not in the line.
     #[error("the group is not present")]
     NotPresent,
-    /// The mandatory group can't be disconnected.
+    /// The mandatory group cannot be disconnected.
     #[error("the mandatory group stays")]
     Mandatory,
     /// No declared slave has the station address.
     #[error("no slave has the station address")]
     UnknownStation,
-    /// The slave's group isn't in the line.
+    /// The slave's group is not in the line.
     #[error("the slave is not present")]
     Absent,
     /// The slave has no such area.
@@ -36,10 +35,10 @@ pub enum CoreFault {
     /// Tasks are numbered 0 to 7.
     #[error("there is no such task")]
     NoSuchTask,
-    /// The area doesn't offer a PDO of the index.
+    /// The area does not offer a PDO with the index.
     #[error("the area does not offer the PDO")]
     UnknownPdo,
-    /// An index is twice.
+    /// An index occurs twice.
     #[error("a PDO is named twice")]
     RepeatedPdo,
     /// The PDOs have more bits than a datagram.
@@ -54,16 +53,16 @@ pub enum CoreFault {
     /// The post was made for the places of another epoch.
     #[error("the post is of another epoch")]
     StalePost,
-    /// The post hasn't the task's number of output bytes.
+    /// The post does not have as many bytes as the task has outputs.
     #[error("the post has another length")]
     PostLength,
-    /// So many register blocks are owed, and no task is sent before they are written.
+    /// This many register blocks are owed, and no task is sent before they are written.
     #[error("{0} register blocks are owed")]
     Unprogrammed(u32),
     /// No register block is owed.
     #[error("no register block is owed")]
     NothingOwed,
-    /// Fewer serials are left than the sendings would use.
+    /// Fewer serials are left than the sendings need.
     #[error("no serial is left")]
     SerialsSpent,
     /// The frame has fewer bytes than the shortest one.
@@ -75,7 +74,7 @@ pub enum CoreFault {
     /// The frame's EtherCAT header has another type.
     #[error("the frame has another type")]
     BadType,
-    /// The frame's lengths don't fit one another.
+    /// The frame's lengths do not fit one another.
     #[error("the frame has a wrong length")]
     BadLength,
     /// A datagram has come round a second time.
@@ -84,19 +83,19 @@ pub enum CoreFault {
     /// The last datagram says that another one follows.
     #[error("more datagrams would follow")]
     MoreFollows,
-    /// A datagram has a command that isn't used.
+    /// A datagram has a command that is not used.
     #[error("a datagram has an unknown command")]
     UnknownCommand,
-    /// A datagram's index isn't from the frame's serial.
+    /// A datagram's index is not that of the frame's serial.
     #[error("a datagram has the index of another serial")]
     IndexMismatch,
-    /// A growth was refused.
+    /// An allocation failed.
     #[error("out of memory")]
     Memory,
     /// The slice is shorter than the frame, which needs this many bytes.
     #[error("{0} bytes are needed")]
     Room(usize),
-    /// The declared group is none by itself: the fault of the project of it and an empty mandatory group.
+    /// The declared group is no project's group: this is the fault of the project of it and an empty mandatory group.
     #[error("the group is no group: {0}")]
     BadGroup(ProjectFault),
     /// A declared group has the alias.
@@ -120,15 +119,18 @@ pub enum CoreFault {
     Waits {
         /// The first task in the given order that waits, 0 to 7.
         task: u8,
-        /// How many owed register blocks of the line concern it.
+        /// The number of owed register blocks of the line that concern it.
         blocks: u32,
-        /// How many registers of slaves outside the line concern it.
+        /// The number of registers of slaves outside the line that concern it.
         outside: u32,
     },
+    /// Each owed register block is under way: the answer to its last write may still come.
+    #[error("every owed register block is under way")]
+    UnderWay,
 }
 
 impl CoreFault {
-    /// The fault's number, 1 to 36; 14 is no fault's number.
+    /// Returns the fault's number, 1 to 37; 14 is no fault's number.
     pub fn number(self) -> u8
         ensures { result ≡ core_fault_number self }
     {
@@ -168,6 +170,7 @@ impl CoreFault {
             CoreFault::TooManyGroups => 34,
             CoreFault::TooManySlaves => 35,
             CoreFault::Waits { .. } => 36,
+            CoreFault::UnderWay => 37,
         }
     }
 }

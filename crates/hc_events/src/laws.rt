@@ -1,7 +1,8 @@
-//! What follows from the definitions of `specs/`, so that a reader can trust them: each function here
-//! does nothing, and its contract is a law that holds of every record. Nobody calls it.
+//! Laws that follow from the definitions in `specs/`. Each function does nothing, and its contract is a law that holds for
+//! every record. Nobody calls it.
 pub mod ready;
 pub mod steady;
+pub mod under_way;
 
 ghost use Rattle.hc_events.specs.Accepted.{RecordsAreReachable};
 ghost use Rattle.hc_events.specs.Ages.{SerialsAreOfData};
@@ -18,51 +19,52 @@ ghost use Rattle.hc_events.specs.ViewLaws.{ChangesLeadOn, LegalEpochsFit, LegalJ
 ghost use Rattle.hc_events.specs.WriteLaws.{DoneWritesAreKnown, GoodAnswersMakeKnown};
 ghost use Rattle.hc_events.specs.Stale.{StaleArrivalsCanGo, StaleChangesNothing, StaleIsJudgedWithout, StaleStaysStale, StepsKeepWithout, UnreadableChangesNothing};
 
-/// A record with an arrival that was stale when it came, and the same record without it, whatever was
-/// recorded since: all later events have the same answers after both, and lead to records that say the
-/// same of the line, the epoch, the next serial, the input images and the serials of their data, the output
-/// values, the known bytes, what the registers may hold, and the slaves that are unplugged.
+/// A record with an arrival that was stale when it came, and the same record without it, whatever was recorded since: all later
+/// events have the same answers after both, and lead to records that agree on the line, the epoch, the next serial, the input
+/// images and the serials of their data, the output values, the known bytes, the register blocks that are under way, what the
+/// registers may hold, and the slaves that are unplugged.
 pub fn stale_changes_nothing()
     ensures { StaleChangesNothing }
 {}
 
-/// The same of a record and that record without any of its stale arrivals.
+/// A record, and that record without any of its stale arrivals: all later events have the same answers after both, and lead to
+/// records that agree as with a single stale arrival left out.
 pub fn stale_arrivals_can_go()
     ensures { StaleArrivalsCanGo }
 {}
 
-/// Whether an arrival is stale can be reported without the arrivals that were stale before it.
+/// Whether an arrival is stale follows from the record without the arrivals that were stale before it.
 pub fn stale_is_judged_without()
     ensures { StaleIsJudgedWithout }
 {}
 
-/// An event leads from a record and from the same record without its stale arrivals to records that are
-/// the same without theirs.
+/// An event leads from a record, and from that record without its stale arrivals, to records that are equal without theirs.
 pub fn steps_keep_without()
     ensures { StepsKeepWithout }
 {}
 
-/// An arrival that is stale although a sending with its serial was made is stale for good. One whose
-/// sending is still to come is stale too, and may be its answer later.
+/// An arrival that is stale although a sending with its serial was made is stale for good. An arrival whose sending is still to
+/// come is stale too, and may be its answer later.
 pub fn stale_stays_stale()
     ensures { StaleStaysStale }
 {}
 
-/// An arrival that can't be read leaves the record as it was.
+/// An arrival that cannot be read leaves the record unchanged.
 pub fn unreadable_changes_nothing()
     ensures { UnreadableChangesNothing }
 {}
 
-/// Each entry of a record that events led to was accepted when it came: an edit by the state, a post by its task and
-/// its length, a frame of tasks because all its datagrams are the line's and nothing was owed, a frame of register
-/// writes as the first owed block's, or of the first ones, as many as it holds. No more sendings were made than there
-/// are serials, and the record begins with the groups that were opened. This is what the laws of such records ask for.
+/// Each entry of a record that events led to was accepted when it came: an edit by the state, a post by its task and its
+/// length, a frame of tasks because all its datagrams are the line's and nothing was owed, a frame of register writes as the
+/// first owed block's, or of the first ones, or of the first ones that are not under way, as many as it holds. No more sendings
+/// were made than there are serials, and the record begins with the groups that were opened. The laws of such records have
+/// these premises.
 pub fn records_are_reachable()
     ensures { RecordsAreReachable }
 {}
 
-/// An arrival answers a sending just where it has the sending's serial and, datagram for datagram, its
-/// commands, addresses and lengths, and since the sending no edit was accepted and no such arrival came.
+/// An arrival answers a sending exactly if it has the sending's serial and, datagram for datagram, its commands, addresses and
+/// lengths, and since the sending no edit was accepted and no such arrival came.
 pub fn answers_the_serial()
     ensures { AnswersTheSerial }
 {}
@@ -73,20 +75,21 @@ pub fn answers_once()
     ensures { AnswersOnce }
 {}
 
-/// A sending that is answered is of the present line: each of its datagrams has there the command, the
-/// address, the length and the expected working counter with which it was sent.
+/// A sending that is answered is of the present line: each of its datagrams has, in that line, the command, the address, the
+/// length and the expected working counter with which it was sent.
 pub fn answered_are_of_the_line()
     ensures { AnsweredAreOfTheLine }
 {}
 
-/// An arrival is no stale one just where something is awaited with its serial and it has the commands,
-/// addresses and lengths of that; then the sending that it answers is the awaited one.
+/// An arrival is not stale exactly if something is awaited with its serial and it has the commands, addresses and lengths of
+/// that; then the sending that it answers is the awaited one.
 pub fn awaited_are_answered()
     ensures { AwaitedAreAnswered }
 {}
 
-/// In a project's line at most two frames of register writes are awaited at any time: the later one is of one block,
-/// and the earlier one is of more. So no third one is awaited, and no two of several blocks.
+/// In a project's line at most two frames of register writes that carry the first owed blocks are awaited at any time: the
+/// later one has one block, and the earlier one more. So no third one is awaited, and no two with several blocks. Frames of
+/// further blocks may be awaited beside them, as many as were sent.
 pub fn two_writes_are_awaited()
     ensures { TwoWritesAreAwaited }
 {}
@@ -106,7 +109,8 @@ pub fn projects_have_few_datagrams()
     ensures { ProjectsHaveFewDatagrams }
 {}
 
-/// Where each register write was sent in a frame of its own, in a project's line, at most one is awaited at any time.
+/// If each register write was sent in a frame of its own, in a project's line, at most one that carries the first owed block
+/// is awaited at any time.
 pub fn one_write_is_awaited()
     ensures { OneWriteIsAwaited }
 {}
@@ -122,23 +126,22 @@ pub fn send_tasks_are_programmed()
     ensures { SendTasksAreProgrammed }
 {}
 
-/// A frame of tasks or a register write that comes back, whatever the slaves made of its data and its
-/// working counters, and whatever came in between, as long as no edit was accepted and it wasn't
-/// answered yet: it is read and answers its sending. Each datagram that was sent again since is stale;
-/// of each other one with the expected counter the data are those that came back.
+/// A frame of tasks or a register write that comes back, whatever the slaves made of its data and its working counters, and
+/// whatever came in between, as long as no edit was accepted and it was not answered yet, is read and answers its sending. Each
+/// datagram that was sent again since is stale; for each other one with the expected counter the data are those that came back.
 pub fn returned_frames_answer()
     ensures { ReturnedFramesAnswer }
 {}
 
-/// An arrival where a block's own datagram is good makes the bytes of the block's last write known. Of every other block
-/// the same is known as before.
+/// An arrival in which a block's own datagram is good makes the bytes of the block's last write known. What is known of every
+/// other block is unchanged.
 pub fn good_answers_make_known()
     ensures { GoodAnswersMakeKnown }
 {}
 
-/// In a project's line, after frames of register writes that were each answered well, only those blocks are owed that none
-/// of the frames carried. So nothing is owed once they carried all that was owed. Posts, reads, frames of tasks, their
-/// answers and stale arrivals may come in between; an edit, another register write and a forgotten slave may not.
+/// In a project's line, after frames of register writes that each had a good answer, only those blocks are owed that none of
+/// the frames carried. So nothing is owed once they carried all that was owed. Posts, reads, frames of tasks, their answers and
+/// stale arrivals may come in between; an edit, another register write and a lost slave may not.
 pub fn done_writes_are_known()
     ensures { DoneWritesAreKnown }
 {}
@@ -148,18 +151,18 @@ pub fn edits_leave_no_slot()
     ensures { EditsLeaveNoSlot }
 {}
 
-/// What a task reads of a datagram has as many bytes as the datagram has in the present line.
+/// The data that a task reads of a datagram have as many bytes as the datagram has in the present line.
 pub fn slots_fit()
     ensures { SlotsFit }
 {}
 
-/// What a task reads of a datagram is the data of its last good answer, where no edit was accepted since,
-/// and there is none else.
+/// The data that a task reads of a datagram are those of its last good answer, if no edit was accepted since; otherwise there
+/// are none.
 pub fn slots_are_last_answers()
     ensures { SlotsAreLastAnswers }
 {}
 
-/// The data that a task reads of a datagram have the serial of a sending, and where it reads none there is no serial.
+/// The data that a task reads of a datagram have the serial of a sending; without data there is no serial.
 pub fn serials_are_of_data()
     ensures { SerialsAreOfData }
 {}
@@ -176,21 +179,19 @@ pub fn answered_are_named()
     ensures { AnsweredAreNamed }
 {}
 
-/// Accepted edits and good answers are reported in the order in which they came: events add to what
-/// there is to give, and take nothing of it away.
+/// Accepted edits and good answers are reported in the order in which they came: events only add to the updates.
 pub fn updates_only_grow()
     ensures { UpdatesOnlyGrow }
 {}
 
-/// What there is to give are accepted edits and good answers alone: of datagrams of an arrival that
-/// answered their sending, that weren't sent again since, and that had the expected working counter.
+/// The updates are exactly accepted edits and good answers: of datagrams of an arrival that answered their sending, that were
+/// not sent again since, and that had the expected working counter.
 pub fn updates_are_of_the_history()
     ensures { UpdatesAreOfTheHistory }
 {}
 
-/// A legal list of changes decides by itself, without any event, what is read after it: the table of
-/// the line that its edits lead to, the epoch, and for each datagram the data of its last good answer
-/// after the last swap.
+/// A legal list of changes decides by itself, without any event, all that is read after it: the table of the line that its
+/// edits lead to, the epoch, and for each datagram the data of its last good answer after the last swap.
 pub fn legal_changes_decide()
     ensures { LegalChangesDecide }
 {}
@@ -201,19 +202,18 @@ pub fn legal_changes_agree()
     ensures { LegalChangesAgree }
 {}
 
-/// A legal list of changes that gives the edits and the good answers of a project's record leads to what is
-/// read after that record: the table of the line, the epoch, and the data of each datagram.
+/// A legal list of changes that gives the edits and the good answers of a project's record leads to all that is read after that
+/// record: the table of the line, the epoch, and the data of each datagram.
 pub fn changes_show_all()
     ensures { ChangesShowAll }
 {}
 
-/// After two lists of changes in a row is what the second leads to from where the first one leads: table,
-/// epoch, data and state.
+/// Two lists of changes in a row lead to the result of the second from the result of the first: table, epoch, data and state.
 pub fn changes_lead_on()
     ensures { ChangesLeadOn }
 {}
 
-/// Two lists of changes in a row are legal just where the first is, and the second from the state after it.
+/// Two lists of changes in a row are legal exactly if the first is, and the second from the state after it.
 pub fn legal_lists_join()
     ensures { LegalJoins }
 {}
@@ -223,8 +223,8 @@ pub fn legal_epochs_fit()
     ensures { LegalEpochsFit }
 {}
 
-/// A legal list of changes that gives a record's edits and good answers shows of each task, 0 to 7, what a
-/// read of the record answers.
+/// A legal list of changes that gives a record's edits and good answers shows for each task, 0 to 7, the answer to a read of
+/// the record.
 pub fn views_are_reads()
     ensures { ViewsAreReads }
 {}
@@ -236,8 +236,8 @@ pub fn changes_are_legal()
     ensures { ChangesAreLegal }
 {}
 
-/// A sending of the record has a serial exactly where it is below the next one, and it is the one before
-/// which so many sendings were made.
+/// A sending of the record has a serial exactly if it is below the next one, and then it is the sending before which this many
+/// were made.
 pub fn sendings_have_serials()
     ensures { SendingsHaveSerials }
 {}
@@ -269,12 +269,12 @@ pub fn sent_write_frames_are_found()
     ensures { SentWriteFramesAreFound }
 {}
 
-/// The frames of tasks bear the next serials, one after another in their order.
+/// The frames of tasks have the next serials, one after another in their order.
 pub fn proposals_are_numbered()
     ensures { ProposalsAreNumbered }
 {}
 
-/// The frames of tasks carry, one after another, just the datagrams of the tasks in the tasks' order.
+/// The frames of tasks carry, one after another, exactly the datagrams of the tasks in the tasks' order.
 pub fn proposals_carry_the_tasks()
     ensures { ProposalsCarryTheTasks }
 {}
@@ -284,17 +284,17 @@ pub fn frames_have_their_sizes()
     ensures { FramesHaveTheirSizes }
 {}
 
-/// The frames of tasks, one after another, fill just the bytes that are asked for them.
+/// The frames of tasks, one after another, fill exactly the bytes that are asked for them.
 pub fn frames_fill_their_bytes()
     ensures { FramesFillTheirBytes }
 {}
 
-/// So does the frame that writes the first owed block.
+/// The frame that writes the first owed block fills exactly the bytes that are asked for it.
 pub fn writes_fill_their_bytes()
     ensures { WritesFillTheirBytes }
 {}
 
-/// So does the frame that writes several blocks.
+/// The frame that writes several blocks fills exactly the bytes that are asked for it.
 pub fn write_frames_fill_their_bytes()
     ensures { WriteFramesFillTheirBytes }
 {}
@@ -310,14 +310,14 @@ pub fn indexes_come_again()
     ensures { IndexesComeAgain }
 {}
 
-/// A block with the same bytes at the same register of the same slave in the old line is owed after an edit
-/// exactly where it was owed before it.
+/// A block with the same bytes at the same register of the same slave in the old line is owed after an edit exactly if it was
+/// owed before it.
 pub fn unmoved_is_owed_as_before()
     ensures { UnmovedIsOwedAsBefore }
 {}
 
-/// In the line of a project a datagram of a task is sent with its length. At the place of each of its output
-/// variables are the bits of that variable's value, and every other bit is 0: gaps and inputs.
+/// In the line of a project a datagram of a task is sent with its length. At the place of each of its output variables stand
+/// the bits of that variable's value, and every other bit is 0: gaps and inputs.
 pub fn sent_data_are_values()
     ensures { SentDataAreValues }
 {}
@@ -327,8 +327,8 @@ pub fn epochs_are_counted()
     ensures { EpochsAreCounted }
 {}
 
-/// The faults have the numbers 1 to 36 without 14: 1 to 13 and 30 to 35 are the numbers of edits' faults, 15 to 19 are
-/// the core's own, 20 to 27 are those of frames, 28 is `Memory`, 29 is `Room`, and 36 is `Waits`.
+/// The faults have the numbers 1 to 37 without 14: 1 to 13 and 30 to 35 are the numbers of edits' faults, 15 to 19 are the
+/// core's own, 20 to 27 are those of frames, 28 is `Memory`, 29 is `Room`, 36 is `Waits`, and 37 is `UnderWay`.
 pub fn faults_are_numbered()
     ensures { FaultsAreNumbered }
 {}
@@ -340,19 +340,19 @@ pub fn forgetting_loses_registers_alone()
     ensures { ForgettingLosesRegistersAlone }
 {}
 
-/// A write of a forgotten slave's block that was sent before confirms nothing: whatever comes back of it is stale.
+/// A write of a lost slave's block that was sent before confirms nothing: every frame that comes back for it is stale.
 pub fn forgotten_writes_are_stale()
     ensures { ForgottenWritesAreStale }
 {}
 
-/// A history where no slave was forgotten and each register write has a frame of its own says what the words say
-/// that knew nothing else.
+/// For a history in which no slave was lost and each register write has a frame of its own, the definitions agree with the
+/// simpler ones that know nothing else.
 pub fn histories_without_forgetting()
     ensures { HistoriesWithoutForgetting }
 {}
 
-/// Where no slave is forgotten and no frame of several writes is sent, the definitions without these two events give each
-/// event the same answer, and the same history.
+/// If no slave is lost and no frame of several writes is sent, the definitions without these two events give each event the
+/// same answer, and the same history.
 pub fn events_without_forgetting()
     ensures { EventsWithoutForgetting }
 {}

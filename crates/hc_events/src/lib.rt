@@ -1,7 +1,6 @@
-//! What the core is asked, what it answers, and what both mean: events, answers, faults, sendings and
-//! changes. `specs/` says by a record of what was accepted which arrival answers which sending, what a
-//! task reads, which data are sent, and which register blocks are owed. The core keeps to it; the crates
-//! above know these types and that record alone.
+//! Events of the core, its answers, and their meaning: events, answers, faults, sendings and changes. `specs/` defines by a
+//! record of accepted entries which arrival answers which sending, which data a task reads, which data are sent, and which
+//! register blocks are owed. The core keeps to it; the crates above use these types and that record alone.
 #![tactic(auto)]
 
 pub mod answer;
@@ -11,3 +10,8 @@ pub mod faults;
 pub mod laws;
 pub mod sending;
 pub mod together;
+
+pub use answer::Answer;
+pub use event::Event;
+pub use faults::CoreFault;
+pub use sending::Sending;

@@ -5,7 +5,7 @@ use arrayvec::ArrayVec;
 use hc_frames::limits::{BESIDE_DATA_BYTES, HEAD_BYTES, LEAST_FRAME, MAX_DATA, MAX_ETHERCAT};
 use std::marker::Model;
 
-/// The most register blocks of one frame: each has 8 bytes at least and 12 beside them, and 1,498 bytes follow the EtherCAT
+/// The most register blocks of one frame: each has at least 8 bytes and 12 beside them, and 1,498 bytes follow the EtherCAT
 /// header (ETG.1000.4, 5.3 and 5.4).
 pub const FRAME_BLOCKS: usize = 74;
 
@@ -36,7 +36,7 @@ impl Sending {
     ghost use Rattle.hc_frames.specs.declared.limits.TheConstants.{MAX_DATA};
     ghost use Rattle.hc_events.specs.Sendings.{FrameIsFilled, frame_of_one, has_room, frame_joined, sent_frame_size};
 
-    /// A frame of one datagram with so many bytes of data, 1 to 1,486.
+    /// Returns a frame of one datagram with `length` bytes of data, 1 to 1,486.
     pub fn of(serial: u64, datagram: Named, length: u16) -> Sending
         requires some { 1 ≤ length }
         requires most { length ≤ MAX_DATA }
@@ -51,8 +51,8 @@ impl Sending {
         }
     }
 
-    /// Whether a datagram with so many bytes of data, at most 1,486, can join the frame: the frame then has
-    /// at most the 1,500 bytes that may follow the Ethernet header.
+    /// Returns whether a datagram with `length` bytes of data, at most 1,486, can join the frame: the frame then has at most
+    /// the 1,500 bytes that may follow the Ethernet header.
     pub fn has_room(&self, length: u16) -> bool
         requires { length ≤ MAX_DATA }
         ensures { result ≡ has_room self.now.bytes length }
@@ -60,8 +60,8 @@ impl Sending {
         2 + self.bytes + BESIDE_DATA_BYTES as u16 + length <= MAX_ETHERCAT
     }
 
-    /// Adds a datagram with so many bytes of data, 1 to 1,486, to the frame after its others. The caller has asked
-    /// `has_room` first.
+    /// Adds a datagram with `length` bytes of data, 1 to 1,486, to the frame after its others. `has_room` must have returned
+    /// that it fits.
     pub fn join(&mut self, datagram: Named, length: u16)
         requires some { 1 ≤ length }
         requires room { IsTrue (has_room self.old.bytes length) }
@@ -71,15 +71,14 @@ impl Sending {
         self.bytes += BESIDE_DATA_BYTES as u16 + length;
     }
 
-    /// The serial, which the frame bears as its source address and whose low byte is the index of each of
-    /// its datagrams.
+    /// Returns the serial, which the frame has as its source address; its low byte is the index of each datagram.
     pub fn serial(&self) -> u64
         ensures { result ≡ self.now.serial }
     {
         self.serial
     }
 
-    /// The bytes of the whole frame, 60 to 1,514.
+    /// Returns the length of the whole frame, 60 to 1,514 bytes.
     pub fn size(&self) -> usize
         ensures { result ≡ sent_frame_size self.now }
     {
@@ -87,8 +86,8 @@ impl Sending {
         bytes.max(usize::from(LEAST_FRAME))
     }
 
-    /// The datagrams of the frame, in order: each by its task and its number in the task. They fit the
-    /// frame, so they are 115 at most.
+    /// Returns the datagrams of the frame, in order: each by its task and its number in the task. They fit the frame, so there
+    /// are at most 115.
     pub fn datagrams(&self) -> &[Named]
         ensures datagrams { result.now ≡ self.now.datagrams }
         ensures filled { FrameIsFilled self.now.bytes self.now.datagrams }

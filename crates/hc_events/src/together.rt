@@ -1,5 +1,4 @@
-//! Tasks that are sent together: 1 to 8, none twice. A command that sends tasks and a call from C make one of what they
-//! are given.
+//! Tasks that are sent together: 1 to 8, none twice. A command that sends tasks and a call from C check their tasks by it.
 ghost use Rattle.std.specs.Prelude.{◌≡◌, ◌↔◌, IsTrue};
 ghost use Rattle.hc_records.specs.Lists.{has_repeat};
 ghost use Rattle.hc_events.specs.Calls.{AreSentTogether, are_together};
@@ -8,7 +7,7 @@ use arrayvec::ArrayVec;
 use hc_records::limits::TASKS;
 use std::marker::Model;
 
-/// Whether a task is there twice.
+/// Returns whether a task occurs twice.
 #[inline(always)]
 fn has_repeat(tasks: &[u8]) -> bool
     ensures { result ≡ has_repeat tasks.now }
@@ -23,7 +22,7 @@ fn has_repeat(tasks: &[u8]) -> bool
     false
 }
 
-/// Whether tasks can be sent together: at least one, at most eight, and none twice.
+/// Returns whether tasks can be sent together: at least one, at most eight, and none twice.
 #[inline(always)]
 fn are_together(tasks: &[u8]) -> bool
     ensures same { result ≡ are_together tasks.now }
@@ -32,7 +31,7 @@ fn are_together(tasks: &[u8]) -> bool
     !tasks.is_empty() && tasks.len() <= usize::from(TASKS) && !has_repeat(tasks)
 }
 
-/// Tasks that are sent together, in order. Whether there is such a task isn't judged yet: each is any number.
+/// Tasks that are sent together, in order. Their numbers are not judged yet: each is any number.
 #[derive(Debug, Drop)]
 pub struct Together {
     tasks: ArrayVec<u8, 8>,
@@ -53,7 +52,7 @@ impl Together {
     ghost use Rattle.std.specs.Prelude.{◌≡◌, IfNone, IfSome};
     ghost use Rattle.hc_events.specs.Calls.{AreSentTogether, if_together};
 
-    /// These tasks, where they can be sent together; else none.
+    /// Returns these tasks if they can be sent together, else `None`.
     #[inline(always)]
     pub fn of(tasks: &[u8]) -> Option<Together>
         ensures tasks { result ≡ if_together tasks.now }
@@ -68,7 +67,7 @@ impl Together {
         Some(Together { tasks: own })
     }
 
-    /// The tasks, in order.
+    /// Returns the tasks, in order.
     pub fn as_slice(&self) -> &[u8]
         ensures tasks { result.now ≡ self.now }
         ensures together { AreSentTogether self.now }

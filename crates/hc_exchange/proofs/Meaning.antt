@@ -22,7 +22,7 @@ use Rattle.hc_segment.specs.Line.{frames_through, machines_after_frame}
 use Rattle.hc_exchange.specs.PairLaws.{IsConfigurable}
 use Rattle.hc_exchange.proofs.lemmas.Members.{stays-line, one-station}
 use Rattle.hc_exchange.specs.AskedLaws.{AllAreAsked, MeetsCarrying}
-use Rattle.hc_exchange.specs.Carrying.{CarriesPair, IsBitOfTask, logical_part, memories_after}
+use Rattle.hc_exchange.specs.Carrying.{LinePairsIn, IsBitOfTask, logical_part, memories_after}
 use Rattle.hc_exchange.specs.Sequences.{LogicalsAreApart, HasBit, Logical, all_after_frames, all_through}
 use Rattle.hc_exchange.specs.Variables.{IsCarried}
 use Rattle.hc_exchange.specs.Wire.{WireCarriesTask, WireMachine, line_machines, outside_machines, wire_after_all, wire_machines}
@@ -221,7 +221,7 @@ came-there state task bytes machines d low =
 record Carried (state : State) (task : ℕ) (dir : Dir) (bytes : ℕ → List ℕ) (place : VariablePlace) (station m k : ℕ) : Type 0 where
   low : place.datagram < task_datagram_count (line state) task
   has : HasBit (sent_logicals state task bytes) place.datagram (logical_of task bytes place.datagram) (place.bit + k)
-  carries : CarriesPair (line state) dir station (8 * logical_address task place.datagram + (place.bit + k)) (m + k)
+  carries : LinePairsIn (line state) dir station (8 * logical_address task place.datagram + (place.bit + k)) (m + k)
 
 carried-bit : (state : State) (task serial : ℕ) (image : List ℕ) (wire : List WireMachine) (frames machines' : List (List ℕ)) (dir : Dir) (variable : ℕ) (place : VariablePlace) (k : ℕ)
     → (g : Given state task serial image wire frames machines') → IsVariable (line state) task dir variable place → (c : IsCarried (line state) variable place) → k < place.bits
@@ -238,10 +238,10 @@ carried-bit state task serial image wire frames machines' dir variable place k g
     let station = c.member.slave.station in
     let m = 8 * c.area.phys + c.offset in
     let first : 8 * logical_address task d + place.bit + k ≡ 8 * logical_address task d + (place.bit + k) = omega arith in
-    let pair : CarriesPair members dir station (8 * logical_address task d + place.bit + k) (m + k) =
-    subst (λ (way : Dir). CarriesPair members way station (8 * logical_address task d + place.bit + k) (m + k)) own.direction
-    (subst (λ (t : ℕ). CarriesPair members place.dir station (8 * logical_address t d + place.bit + k) (m + k)) own.in_task (c.pairs k below)) in
-    let carries : CarriesPair members dir station (8 * logical_address task d + (place.bit + k)) (m + k) = subst (λ (x : ℕ). CarriesPair members dir station x (m + k)) first pair in
+    let pair : LinePairsIn members dir station (8 * logical_address task d + place.bit + k) (m + k) =
+    subst (λ (way : Dir). LinePairsIn members way station (8 * logical_address task d + place.bit + k) (m + k)) own.direction
+    (subst (λ (t : ℕ). LinePairsIn members place.dir station (8 * logical_address t d + place.bit + k) (m + k)) own.in_task (c.pairs k below)) in
+    let carries : LinePairsIn members dir station (8 * logical_address task d + (place.bit + k)) (m + k) = subst (λ (x : ℕ). LinePairsIn members dir station x (m + k)) first pair in
     record {
       low = low;
       has = has-bit state task d (place.bit + k) g.sent.bytes low (omega (arith, size, within));
@@ -337,7 +337,7 @@ gap-cleared state task serial image wire frames machines' position member memory
     let packed = g.sent.packed i.datagram low in
     let size = packed.size in
     let inside = i.below in
-    let carries = subst (λ (x : ℕ). CarriesPair members Out member.slave.station x m) i.at pair.carries in
+    let carries = subst (λ (x : ℕ). LinePairsIn members Out member.slave.station x m) i.at pair.carries in
     asked-all-outputs (IsBitOfTask members task) state (line_machines wire) position member at.memory memory' (sent_logicals state task bytes) i.datagram (logical_of task bytes i.datagram) i.bit m at.meets
     (all-asked state task serial image wire frames machines' g)
     (all-apart state task serial image wire frames machines' g) (has-bit state task i.datagram i.bit bytes low (omega arith)) carries
@@ -350,7 +350,7 @@ gap-cleared state task serial image wire frames machines' position member memory
     let j = i.bit - place.bit in
     let below : j < place.bits = omega arith in
     let logical : 8 * logical_address place.task place.datagram + place.bit + j ≡ pair.x = omega (arith, i.at, own.in_task, lies.datagram, from) in
-    let other = subst (λ (x : ℕ). CarriesPair members place.dir c.member.slave.station x (8 * c.area.phys + c.offset + j)) logical (c.pairs j below) in
+    let other = subst (λ (x : ℕ). LinePairsIn members place.dir c.member.slave.station x (8 * c.area.phys + c.offset + j)) logical (c.pairs j below) in
     let n_is : 8 * c.area.phys + c.offset + j ≡ 8 * c.area.phys + (c.offset + j) = omega arith in
     gap-free members task member area m k pair.x (8 * c.area.phys + c.offset + j) j variable place.bits stays has b p gap c.member c.index c.area c.offset c.in_line c.in_record c.entry below n_is other.areas)
 
@@ -374,7 +374,7 @@ rest-unchanged state task serial image wire frames machines' position member mem
     let equal : dg ≡ logical_of task bytes n =
     sym (get_or_from_slice_get (sent_logicals state task bytes) n dg dg there.is) ∙ get_or-map-range_with_len (logical_of task bytes) 0 (task_datagram_count members task) n n dg counted (omega arith) in
     let below : bit < 8 * length (bytes n) = subst (λ (x : Logical). bit < 8 * length x.bytes) equal there.below in
-    let carries = subst (λ (x : Logical). CarriesPair members Out member.slave.station (x.from + bit) m) equal output in
+    let carries = subst (λ (x : Logical). LinePairsIn members Out member.slave.station (x.from + bit) m) equal output in
     let p = carries.areas in
     let in_task = task-answer_given state task n bit member.slave.station m g.can (datagram-there members task n counted) (omega arith) p in
     let own = one-station members p.member member stays p.is_mapped.in_line has p.station_is in

@@ -15,25 +15,25 @@ use Rattle.hc_records.proofs.lemmas.Variables.{IsEntryVariable, entry-variables}
 use Rattle.hc_registers.specs.declared.fmmu.Mapping.{Mapping}
 use Rattle.hc_registers.specs.Blocks.{mapping_at, mapping_of}
 use Rattle.hc_exchange.specs.PairLaws.{IsConfigurable}
-use Rattle.hc_exchange.specs.Pairs.{AreasPair, member_area_key}
+use Rattle.hc_exchange.specs.Pairs.{LinePairs, member_area_key}
 use Rattle.hc_exchange.proofs.lemmas.Listed.{areas-mapped}
 use Rattle.hc_exchange.proofs.lemmas.Members.{KeepsLine, area-inside, stays-line, one-index, one-station}
 use Rattle.hc_exchange.proofs.lemmas.Places.{logical-answer_given, mapped-place}
-use Rattle.hc_exchange.specs.Carrying.{CarriesPair, IsBitOfTask}
+use Rattle.hc_exchange.specs.Carrying.{LinePairsIn, IsBitOfTask}
 use Rattle.hc_exchange.proofs.lemmas.Slaves.{one-owner}
 use Rattle.hc_exchange.specs.Exchanged.{IsGapBit, IsOutputBit}
 use Rattle.hc_exchange.proofs.Packing.{datagram-early, length-there}
 
 -- a logical bit has one area of one slave, and one bit of it
 
-record SameBit (line : List Member) (station other x m n : ℕ) (p : AreasPair line station x m) (q : AreasPair line other x n) : Type 0 where
+record SameBit (line : List Member) (station other x m n : ℕ) (p : LinePairs line station x m) (q : LinePairs line other x n) : Type 0 where
   member : p.member ≡ q.member
   memory : m ≡ n
 
 bits-same : (first k l x : ℕ) → x ≡ first + k → x ≡ first + l → k ≡ l
 bits-same first k l x is is' = omega arith
 
-same-bit : (line : List Member) (station other x m n : ℕ) → KeepsLine line → (p : AreasPair line station x m) → (q : AreasPair line other x n) → SameBit line station other x m n p q
+same-bit : (line : List Member) (station other x m n : ℕ) → KeepsLine line → (p : LinePairs line station x m) → (q : LinePairs line other x n) → SameBit line station other x m n p q
 same-bit line station other x m n stays p q =
     let owner = one-owner line station other x m n stays p q in
     let one = owner.0 in
@@ -51,7 +51,7 @@ same-bit line station other x m n stays p q =
 
 -- an area's bit is in a datagram of the area's task
 
-pub in-datagram : (line : List Member) (station x m : ℕ) → KeepsLine line → (p : AreasPair line station x m) → IsBitOfTask line p.area.task x
+pub in-datagram : (line : List Member) (station x m : ℕ) → KeepsLine line → (p : LinePairs line station x m) → IsBitOfTask line p.area.task x
 in-datagram line station x m stays p =
     let is = p.is_mapped in
     let place = mapped-place line p.member p.index p.area p.mapping stays is.in_line is.in_record is.mapped in
@@ -72,7 +72,7 @@ in-datagram line station x m stays p =
 
 -- and a bit of a task's datagram is an area's of this task
 pub task-answer_given : (state : State) (task d bit station m : ℕ) → IsConfigurable state → LineHasDatagram (line state) task d → bit < 8 * datagram_length (task_places task (line state)) d
-    → (p : AreasPair (line state) station (8 * logical_address task d + bit) m) → p.area.task ≡ task
+    → (p : LinePairs (line state) station (8 * logical_address task d + bit) m) → p.area.task ≡ task
 task-answer_given state task d bit station m can is low p =
     let members = line state in
     let stays = stays-line state can in
@@ -95,7 +95,7 @@ task-answer_given state task d bit station m can is low p =
 
 pub record HasPair (line : List Member) (task : ℕ) (member : Member) (m : ℕ) : Type 0 where
   pub x : ℕ
-  pub carries : CarriesPair line Out member.slave.station x m
+  pub carries : LinePairsIn line Out member.slave.station x m
   pub in_task : carries.areas.area.task ≡ task
   pub own : carries.areas.member ≡ member
 
@@ -137,9 +137,9 @@ entry-inside area variable offset bits entry =
     omega arith
 
 pub gap-free : (line : List Member) (task : ℕ) (member : Member) (area : Area) (m k x n j variable bits : ℕ) → KeepsLine line → Contains line member → IsOutputBit task member area m k
-    → (p : AreasPair line member.slave.station x m) → IsGapBit area k
+    → (p : LinePairs line member.slave.station x m) → IsGapBit area k
     → (carrier : Member) → (index : ℕ) → (own : Area) → (offset : ℕ) → Contains line carrier → slice_get carrier.slave.areas index ≡ Some own
-    → Contains (variables_from 0 (assigned_entries own)) (variable, (offset, bits)) → j < bits → n ≡ 8 * own.phys + (offset + j) → (q : AreasPair line carrier.slave.station x n) → ⊥
+    → Contains (variables_from 0 (assigned_entries own)) (variable, (offset, bits)) → j < bits → n ≡ 8 * own.phys + (offset + j) → (q : LinePairs line carrier.slave.station x n) → ⊥
 gap-free line task member area m k x n j variable bits stays has b p gap carrier index own offset in_line in_record entry low at q =
     let same = same-bit line member.slave.station carrier.slave.station x m n stays p q in
     let mine = one-station line p.member member stays p.is_mapped.in_line has p.station_is in

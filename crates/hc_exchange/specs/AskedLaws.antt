@@ -7,7 +7,7 @@ use Rattle.hc_records.specs.Image.{datagram_length, expected_counter, logical_ad
 use Rattle.hc_records.specs.Line.{Member, State, line}
 use Rattle.hc_machine.specs.declared.limits.TheConstants.{MEMORY_BITS}
 use Rattle.hc_exchange.specs.PairLaws.{IsConfigurable}
-use Rattle.hc_exchange.specs.Carrying.{AreAsked, AreCarrying, AreCarryingTask, AreProgrammed, CarriesPair, IsBitOfTask, count_through, data_through, memories_after}
+use Rattle.hc_exchange.specs.Carrying.{AreAsked, AreCarrying, AreCarryingTask, AreProgrammed, LinePairsIn, IsBitOfTask, count_through, data_through, memories_after}
 use Rattle.hc_exchange.specs.Sequences.{HasBit, Logical, LogicalsAreApart, all_after_frames, all_through}
 
 -- a law of the logical bits that are asked about holds for the bits of each task of each line
@@ -37,13 +37,13 @@ abbrev pub AskedInputsAreBroughtBack : (ℕ → Type 0) → State → Type 0
 AskedInputsAreBroughtBack Asked state =
     (machines : List (List ℕ)) (k : ℕ) (member : Member) (memory bytes : List ℕ) (from bit m : ℕ)
     → MeetsCarrying Asked state machines k member memory → AreAsked Asked from bytes
-    → bit < 8 * length bytes → CarriesPair (line state) In member.slave.station (from + bit) m → bit_of (data_through machines from bytes) bit ≡ bit_of memory m
+    → bit < 8 * length bytes → LinePairsIn (line state) In member.slave.station (from + bit) m → bit_of (data_through machines from bytes) bit ≡ bit_of memory m
 
 -- a bit of the data that is no input's comes back as it was sent
 abbrev pub OtherAskedBitsComeBack : (ℕ → Type 0) → State → Type 0
 OtherAskedBitsComeBack Asked state =
     (machines : List (List ℕ)) (bytes : List ℕ) (from bit : ℕ) → IsConfigurable state → AreCarrying Asked (line state) machines
-    → AreAsked Asked from bytes → bit < 8 * length bytes → ((station m : ℕ) → ¬ CarriesPair (line state) In station (from + bit) m)
+    → AreAsked Asked from bytes → bit < 8 * length bytes → ((station m : ℕ) → ¬ LinePairsIn (line state) In station (from + bit) m)
     → bit_of (data_through machines from bytes) bit ≡ bit_of bytes bit
 
 -- a slave's memory after the datagram has the sent bit wherever a bit of the data is an output's
@@ -51,14 +51,14 @@ abbrev pub AskedOutputsArrive : (ℕ → Type 0) → State → Type 0
 AskedOutputsArrive Asked state =
     (machines : List (List ℕ)) (k : ℕ) (member : Member) (memory memory' bytes : List ℕ) (from bit m : ℕ)
     → MeetsCarrying Asked state machines k member memory → AreAsked Asked from bytes → slice_get (memories_after machines from bytes) k ≡ Some memory'
-    → bit < 8 * length bytes → CarriesPair (line state) Out member.slave.station (from + bit) m → bit_of memory' m ≡ bit_of bytes bit
+    → bit < 8 * length bytes → LinePairsIn (line state) Out member.slave.station (from + bit) m → bit_of memory' m ≡ bit_of bytes bit
 
 -- every other bit of its memory is as it was, in its registers too
 abbrev pub MemoryBesideAskedStays : (ℕ → Type 0) → State → Type 0
 MemoryBesideAskedStays Asked state =
     (machines : List (List ℕ)) (k : ℕ) (member : Member) (memory memory' bytes : List ℕ) (from m : ℕ)
     → MeetsCarrying Asked state machines k member memory → AreAsked Asked from bytes → slice_get (memories_after machines from bytes) k ≡ Some memory' → m < MEMORY_BITS
-    → ((bit : ℕ) → bit < 8 * length bytes → ¬ CarriesPair (line state) Out member.slave.station (from + bit) m) → bit_of memory' m ≡ bit_of memory m
+    → ((bit : ℕ) → bit < 8 * length bytes → ¬ LinePairsIn (line state) Out member.slave.station (from + bit) m) → bit_of memory' m ≡ bit_of memory m
 
 -- as many bytes of data come back, and the machines carry the bits as before
 pub record StaysCarrying (Asked : ℕ → Type 0) (line : List Member) (machines : List (List ℕ)) (from : ℕ) (bytes : List ℕ) : Type 0 where
@@ -85,7 +85,7 @@ AllAreAsked Asked ds = (n : ℕ) (d : Logical) (bit : ℕ) → HasBit ds n d bit
 abbrev pub AllAskedInputsAreBroughtBack : (ℕ → Type 0) → State → Type 0
 AllAskedInputsAreBroughtBack Asked state =
     (machines : List (List ℕ)) (k : ℕ) (member : Member) (memory : List ℕ) (ds : List Logical) (n : ℕ) (d : Logical) (bit m : ℕ) (came : List ℕ)
-    → MeetsCarrying Asked state machines k member memory → AllAreAsked Asked ds → HasBit ds n d bit → CarriesPair (line state) In member.slave.station (d.from + bit) m
+    → MeetsCarrying Asked state machines k member memory → AllAreAsked Asked ds → HasBit ds n d bit → LinePairsIn (line state) In member.slave.station (d.from + bit) m
     → slice_get (all_through machines ds) n ≡ Some came → bit_of came bit ≡ bit_of memory m
 
 -- if the datagrams are apart, each output's bit of each of them is the bit of its slave's memory after the last
@@ -93,14 +93,14 @@ abbrev pub AllAskedOutputsArrive : (ℕ → Type 0) → State → Type 0
 AllAskedOutputsArrive Asked state =
     (machines : List (List ℕ)) (k : ℕ) (member : Member) (memory memory' : List ℕ) (ds : List Logical) (n : ℕ) (d : Logical) (bit m : ℕ)
     → MeetsCarrying Asked state machines k member memory → AllAreAsked Asked ds → AllPairs LogicalsAreApart ds → HasBit ds n d bit
-    → CarriesPair (line state) Out member.slave.station (d.from + bit) m → slice_get (all_after_frames machines ds) k ≡ Some memory' → bit_of memory' m ≡ bit_of d.bytes bit
+    → LinePairsIn (line state) Out member.slave.station (d.from + bit) m → slice_get (all_after_frames machines ds) k ≡ Some memory' → bit_of memory' m ≡ bit_of d.bytes bit
 
 -- every other bit of the memory is as it was before the first
 abbrev pub MemoryBesideAllAskedStays : (ℕ → Type 0) → State → Type 0
 MemoryBesideAllAskedStays Asked state =
     (machines : List (List ℕ)) (k : ℕ) (member : Member) (memory memory' : List ℕ) (ds : List Logical) (m : ℕ)
     → MeetsCarrying Asked state machines k member memory → AllAreAsked Asked ds → m < MEMORY_BITS
-    → ((n : ℕ) (d : Logical) (bit : ℕ) → HasBit ds n d bit → ¬ CarriesPair (line state) Out member.slave.station (d.from + bit) m)
+    → ((n : ℕ) (d : Logical) (bit : ℕ) → HasBit ds n d bit → ¬ LinePairsIn (line state) Out member.slave.station (d.from + bit) m)
     → slice_get (all_after_frames machines ds) k ≡ Some memory' → bit_of memory' m ≡ bit_of memory m
 
 -- the machines carry the bits after the datagrams too

@@ -14,7 +14,7 @@ use Rattle.hc_machine.specs.declared.limits.TheConstants.{FMMUS, MEMORY_BYTES}
 use Rattle.hc_machine.specs.Fmmus.{fmmu_block_at}
 use Rattle.hc_machine.specs.Laws.{IsPair}
 use Rattle.hc_machine.specs.Logical.{logical_count, logical_data, logical_memory}
-use Rattle.hc_exchange.specs.Pairs.{AreasPair, IsAreaPair, IsMapped}
+use Rattle.hc_exchange.specs.Pairs.{LinePairs, IsAreaPair, IsMapped}
 use Rattle.hc_exchange.specs.Writing.{IsProgrammed}
 
 -- the data of a datagram from a logical bit on, after machines: each passes on what it makes of them
@@ -36,20 +36,20 @@ count_through (memory ∷ machines) from n = logical_count memory from n + count
 abbrev pub logical_part : ℕ → List ℕ → ℕ → WireDatagram
 logical_part address bytes counter = record { command = Lrw; address = address; interrupt = 0; bytes = bytes; counter = counter }
 
--- the slave with a station address is to carry logical bit x in its memory bit m, in an area of this direction
-pub record CarriesPair (line : List Member) (dir : Dir) (station x m : ℕ) : Type 0 where
-  pub areas : AreasPair line station x m
+-- (c of Pairs) x and m are a pair of an area of the slave with a station address, and the area has this direction
+pub record LinePairsIn (line : List Member) (dir : Dir) (station x m : ℕ) : Type 0 where
+  pub areas : LinePairs line station x m
   pub direction : areas.area.dir ≡ dir
 
--- a machine of the line that is programmed, and each of its numbers is a byte
-pub record IsReadyMachine (line : List Member) (member : Member) (memory : List ℕ) : Type 0 where
+-- a machine of the line that is programmed; each number in its memory is a byte
+pub record IsProgrammedMachine (line : List Member) (member : Member) (memory : List ℕ) : Type 0 where
   pub programmed : IsProgrammed line member memory
   pub all_bytes : AreBytes memory
 
 -- the machines are the line's, in its order, and each is programmed
 pub record AreProgrammed (line : List Member) (machines : List (List ℕ)) : Type 0 where
   pub count : length machines ≡ length line
-  pub each : (k : ℕ) (member : Member) (memory : List ℕ) → slice_get line k ≡ Some member → slice_get machines k ≡ Some memory → IsReadyMachine line member memory
+  pub each : (k : ℕ) (member : Member) (memory : List ℕ) → slice_get line k ≡ Some member → slice_get machines k ≡ Some memory → IsProgrammedMachine line member memory
 
 -- logical bit x is a bit of one of the datagrams of a task of the line
 pub record IsBitOfTask (line : List Member) (task x : ℕ) : Type 0 where

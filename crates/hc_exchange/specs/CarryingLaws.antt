@@ -7,7 +7,7 @@ use Rattle.hc_machine.specs.declared.limits.TheConstants.{MEMORY_BITS}
 use Rattle.hc_exchange.specs.PairLaws.{IsConfigurable}
 use Rattle.hc_exchange.specs.Writing.{AreMachinesOf}
 use Rattle.hc_exchange.specs.WritingLaws.{machines_written}
-use Rattle.hc_exchange.specs.Carrying.{AreProgrammed, CarriesPair, data_through, memories_after}
+use Rattle.hc_exchange.specs.Carrying.{AreProgrammed, LinePairsIn, data_through, memories_after}
 
 -- a datagram from a logical bit on with these data meets the machines of a line; the k-th of them is a slave's
 pub record Meets (state : State) (machines : List (List ℕ)) (k : ℕ) (member : Member) (memory : List ℕ) : Type 0 where
@@ -20,19 +20,19 @@ pub record Meets (state : State) (machines : List (List ℕ)) (k : ℕ) (member 
 abbrev pub InputsAreBroughtBack : Type 0
 InputsAreBroughtBack =
     (state : State) (machines : List (List ℕ)) (k : ℕ) (member : Member) (memory bytes : List ℕ) (from bit m : ℕ) → Meets state machines k member memory
-    → bit < 8 * length bytes → CarriesPair (line state) In member.slave.station (from + bit) m → bit_of (data_through machines from bytes) bit ≡ bit_of memory m
+    → bit < 8 * length bytes → LinePairsIn (line state) In member.slave.station (from + bit) m → bit_of (data_through machines from bytes) bit ≡ bit_of memory m
 
 -- one that is no input's comes back as it was sent
 abbrev pub OtherBitsComeBack : Type 0
 OtherBitsComeBack =
     (state : State) (machines : List (List ℕ)) (bytes : List ℕ) (from bit : ℕ) → IsConfigurable state → AreProgrammed (line state) machines
-    → bit < 8 * length bytes → ((station m : ℕ) → ¬ CarriesPair (line state) In station (from + bit) m) → bit_of (data_through machines from bytes) bit ≡ bit_of bytes bit
+    → bit < 8 * length bytes → ((station m : ℕ) → ¬ LinePairsIn (line state) In station (from + bit) m) → bit_of (data_through machines from bytes) bit ≡ bit_of bytes bit
 
 -- the machine of a slave after the datagram has the sent bit wherever a bit of the data is an output's
 abbrev pub OutputsArrive : Type 0
 OutputsArrive =
     (state : State) (machines : List (List ℕ)) (k : ℕ) (member : Member) (memory memory' bytes : List ℕ) (from bit m : ℕ) → Meets state machines k member memory
-    → slice_get (memories_after machines from bytes) k ≡ Some memory' → bit < 8 * length bytes → CarriesPair (line state) Out member.slave.station (from + bit) m
+    → slice_get (memories_after machines from bytes) k ≡ Some memory' → bit < 8 * length bytes → LinePairsIn (line state) Out member.slave.station (from + bit) m
     → bit_of memory' m ≡ bit_of bytes bit
 
 -- and every other bit as it was
@@ -40,7 +40,7 @@ abbrev pub OtherMemoryStays : Type 0
 OtherMemoryStays =
     (state : State) (machines : List (List ℕ)) (k : ℕ) (member : Member) (memory memory' bytes : List ℕ) (from m : ℕ) → Meets state machines k member memory
     → slice_get (memories_after machines from bytes) k ≡ Some memory' → m < MEMORY_BITS
-    → ((bit : ℕ) → bit < 8 * length bytes → ¬ CarriesPair (line state) Out member.slave.station (from + bit) m) → bit_of memory' m ≡ bit_of memory m
+    → ((bit : ℕ) → bit < 8 * length bytes → ¬ LinePairsIn (line state) Out member.slave.station (from + bit) m) → bit_of memory' m ≡ bit_of memory m
 
 -- as many bytes of data come back, and the machines are programmed as before
 pub record StaysProgrammed (line : List Member) (machines : List (List ℕ)) (from : ℕ) (bytes : List ℕ) : Type 0 where

@@ -14,7 +14,7 @@ use Rattle.hc_machine.specs.declared.limits.TheConstants.{MEMORY_BITS}
 use Rattle.hc_exchange.specs.Carrying.{AreCarryingTask, logical_part}
 use Rattle.hc_exchange.specs.Sent.{IsVariable, task_datagram_count}
 use Rattle.hc_exchange.specs.Wire.{WireCarriesTask, WireMachine, line_machines, outside_machines, wire_machines}
-use Rattle.hc_exchange.specs.Writing.{AreReadyFor}
+use Rattle.hc_exchange.specs.Writing.{CanAllBeProgrammed}
 
 -- the frame of a datagram of a task came back: it is read, with its serial after those of the datagrams before it, at its logical address, with these data, and with the expected counter
 pub record DatagramCameBack (line : List Member) (task serial d : ℕ) (frame bytes : List ℕ) : Type 0 where
@@ -57,7 +57,7 @@ pub record IsOutputBit (task : ℕ) (member : Member) (area : Area) (m k : ℕ) 
 abbrev pub IsGapBit : Area → ℕ → Type 0
 IsGapBit area k = (variable offset bits : ℕ) → Contains (variables_from 0 (assigned_entries area)) (variable, (offset, bits)) → offset ≤ k → ¬ (k < offset + bits)
 
--- a slave's memory after an exchange: the gaps of its output areas in the task are 0, and no other bit of process memory outside these areas is changed
+-- a slave's memory after an exchange: outside the slave's output areas in the task process memory is as it was, and in them the bits of no variable are 0
 pub record KeepsTheRest (task : ℕ) (member : Member) (memory memory' : List ℕ) : Type 0 where
   pub gaps : (area : Area) (m k : ℕ) → IsOutputBit task member area m k → IsGapBit area k → bit_of memory' m ≡ 0
   pub rest : (m : ℕ) → 8 * MEMORY_START ≤ m → m < MEMORY_BITS → ((area : Area) (k : ℕ) → ¬ IsOutputBit task member area m k) → bit_of memory' m ≡ bit_of memory m
@@ -75,9 +75,9 @@ pub record IsExchanged (line : List Member) (task serial : ℕ) (image : List �
   pub rest : (position : ℕ) (member : Member) (memory memory' : List ℕ) → slice_get line position ≡ Some member
       → slice_get machines position ≡ Some memory → slice_get machines' position ≡ Some memory' → KeepsTheRest task member memory memory'
 
--- the machines exchange the values where they are ready for the line: after the writes of its blocks
-abbrev pub IsExchangedIfReady : List Member → ℕ → List ℕ → List (List ℕ) → List (List ℕ) → List (List ℕ) → Type 0
-IsExchangedIfReady line task image machines frames machines' = AreReadyFor line machines → IsExchanged line task (length (line_blocks line)) image machines frames machines'
+-- machines that can be programmed for the line exchange the values after the writes of its blocks
+abbrev pub IsExchangedIfProgrammable : List Member → ℕ → List ℕ → List (List ℕ) → List (List ℕ) → List (List ℕ) → Type 0
+IsExchangedIfProgrammable line task image machines frames machines' = CanAllBeProgrammed line machines → IsExchanged line task (length (line_blocks line)) image machines frames machines'
 
 -- they exchange the values where they carry the task, whatever other tasks' blocks they have
 abbrev pub IsExchangedByCarriers : List Member → ℕ → ℕ → List ℕ → List (List ℕ) → List (List ℕ) → List (List ℕ) → Type 0

@@ -13,7 +13,7 @@ use Rattle.hc_registers.specs.declared.fmmu.Mapping.{Mapping}
 use Rattle.hc_registers.specs.Blocks.{IsMappable, LineBlock, fmmu_bytes, line_blocks, mapped_bytes, mapping_at, mapping_of}
 use Rattle.hc_machine.specs.Fmmus.{is_read, is_write_fmmu}
 use Rattle.hc_machine.specs.Laws.{IsPair}
-use Rattle.hc_exchange.specs.Pairs.{AreasPair, BlocksPair, IsAreaPair, IsBlockPair, LiesInMemory, member_area_key}
+use Rattle.hc_exchange.specs.Pairs.{LinePairs, LineBlockPairs, IsAreaPair, IsBlockPair, LiesInMemory, member_area_key}
 
 -- the pairs of the block of an area that is mapped are the area's, and no others
 abbrev pub BlocksPairTheirAreas : Type 0
@@ -60,7 +60,7 @@ AreasWithBitsAreMapped =
 
 -- slave by slave, the pairs of the line's blocks are its areas'
 abbrev pub LinesPairTheirAreas : Type 0
-LinesPairTheirAreas = (state : State) (station x m : ℕ) → IsConfigurable state → BlocksPair (line state) station x m ↔ AreasPair (line state) station x m
+LinesPairTheirAreas = (state : State) (station x m : ℕ) → IsConfigurable state → LineBlockPairs (line state) station x m ↔ LinePairs (line state) station x m
 
 -- two blocks pair no logical bit both
 abbrev pub ShareNoLogicalBit : LineBlock → LineBlock → Type 0

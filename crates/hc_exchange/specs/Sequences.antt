@@ -5,7 +5,7 @@ use Rattle.hc_records.specs.declared.records.Dir.TheVariants.{Out, In}
 use Rattle.hc_records.specs.Line.{Member, State, line}
 use Rattle.hc_machine.specs.declared.limits.TheConstants.{MEMORY_BITS}
 use Rattle.hc_exchange.specs.PairLaws.{IsConfigurable}
-use Rattle.hc_exchange.specs.Carrying.{AreProgrammed, CarriesPair, data_through, memories_after}
+use Rattle.hc_exchange.specs.Carrying.{AreProgrammed, LinePairsIn, data_through, memories_after}
 use Rattle.hc_exchange.specs.CarryingLaws.{Meets}
 
 -- a logical datagram: its first logical bit and its data
@@ -36,14 +36,14 @@ LogicalsAreApart a b = (k l : ℕ) → k < 8 * length a.bytes → l < 8 * length
 abbrev pub AllInputsAreBroughtBack : Type 0
 AllInputsAreBroughtBack =
     (state : State) (machines : List (List ℕ)) (k : ℕ) (member : Member) (memory : List ℕ) (ds : List Logical) (n : ℕ) (d : Logical) (bit m : ℕ) (came : List ℕ)
-    → Meets state machines k member memory → HasBit ds n d bit → CarriesPair (line state) In member.slave.station (d.from + bit) m → slice_get (all_through machines ds) n ≡ Some came
+    → Meets state machines k member memory → HasBit ds n d bit → LinePairsIn (line state) In member.slave.station (d.from + bit) m → slice_get (all_through machines ds) n ≡ Some came
     → bit_of came bit ≡ bit_of memory m
 
 -- where the datagrams are apart, each output's bit of each of them is the bit of its slave's memory after the last
 abbrev pub AllOutputsArrive : Type 0
 AllOutputsArrive =
     (state : State) (machines : List (List ℕ)) (k : ℕ) (member : Member) (memory memory' : List ℕ) (ds : List Logical) (n : ℕ) (d : Logical) (bit m : ℕ)
-    → Meets state machines k member memory → AllPairs LogicalsAreApart ds → HasBit ds n d bit → CarriesPair (line state) Out member.slave.station (d.from + bit) m
+    → Meets state machines k member memory → AllPairs LogicalsAreApart ds → HasBit ds n d bit → LinePairsIn (line state) Out member.slave.station (d.from + bit) m
     → slice_get (all_after_frames machines ds) k ≡ Some memory' → bit_of memory' m ≡ bit_of d.bytes bit
 
 -- and every other bit of its memory is as it was
@@ -51,7 +51,7 @@ abbrev pub AllOtherMemoryStays : Type 0
 AllOtherMemoryStays =
     (state : State) (machines : List (List ℕ)) (k : ℕ) (member : Member) (memory memory' : List ℕ) (ds : List Logical) (m : ℕ)
     → Meets state machines k member memory → m < MEMORY_BITS
-    → ((n : ℕ) (d : Logical) (bit : ℕ) → HasBit ds n d bit → ¬ CarriesPair (line state) Out member.slave.station (d.from + bit) m)
+    → ((n : ℕ) (d : Logical) (bit : ℕ) → HasBit ds n d bit → ¬ LinePairsIn (line state) Out member.slave.station (d.from + bit) m)
     → slice_get (all_after_frames machines ds) k ≡ Some memory' → bit_of memory' m ≡ bit_of memory m
 
 -- the line is programmed after them

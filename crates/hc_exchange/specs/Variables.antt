@@ -5,7 +5,7 @@ use Rattle.hc_records.specs.Area.{assigned_entries}
 use Rattle.hc_records.specs.Image.{VariablePlace, logical_address, variable_place, variables_from}
 use Rattle.hc_records.specs.Line.{Member, State, line}
 use Rattle.hc_exchange.specs.PairLaws.{IsConfigurable}
-use Rattle.hc_exchange.specs.Carrying.{CarriesPair}
+use Rattle.hc_exchange.specs.Carrying.{LinePairsIn}
 
 -- a variable with a place is in an area of a slave of the line: so many bits after the first of the area's memory, by the widths of the entries before it; each of its bits at the place is a pair of the area with the same bit there
 pub record IsCarried (line : List Member) (variable : ℕ) (place : VariablePlace) : Type 0 where
@@ -17,7 +17,7 @@ pub record IsCarried (line : List Member) (variable : ℕ) (place : VariablePlac
   pub in_record : slice_get member.slave.areas index ≡ Some area
   pub entry : Contains (variables_from 0 (assigned_entries area)) (variable, (offset, place.bits))
   pub pairs : (k : ℕ) → k < place.bits
-      → CarriesPair line place.dir member.slave.station (8 * logical_address place.task place.datagram + place.bit + k) (8 * area.phys + offset + k)
+      → LinePairsIn line place.dir member.slave.station (8 * logical_address place.task place.datagram + place.bit + k) (8 * area.phys + offset + k)
 
 -- so does each variable of a line
 abbrev pub VariablesAreCarried : Type 0

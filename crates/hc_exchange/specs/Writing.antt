@@ -20,21 +20,21 @@ block_datagram block = block_write block.station block.block.register block.bloc
 abbrev pub write_frames : ℕ → List LineBlock → List (List ℕ)
 write_frames serial blocks = map (λ e. frame_text e.0 (block_datagram e.1 ∷ [])) (enumerate_from serial blocks)
 
--- a machine is ready for a slave: the slave's station address is in its register, and zeros are in the FMMU blocks past the slave's areas
-pub record IsReadyFor (member : Member) (memory : List ℕ) : Type 0 where
+-- a machine can be programmed for a slave: the slave's station address is in its register, and zeros are in the FMMU blocks past the slave's areas
+pub record CanBeProgrammed (member : Member) (memory : List ℕ) : Type 0 where
   pub station : word_at memory STATION_REGISTER ≡ member.slave.station
   pub unused : (i : ℕ) → length member.slave.areas ≤ i → i < FMMUS → fmmu_block_at memory i ≡ replicate FMMU_BLOCK_BYTES 0
 
--- so are machines for the slaves of the line, in its order
-pub record AreReadyFor (line : List Member) (machines : List (List ℕ)) : Type 0 where
+-- machines can be programmed for the slaves of a line, in its order
+pub record CanAllBeProgrammed (line : List Member) (machines : List (List ℕ)) : Type 0 where
   pub count : length machines ≡ length line
-  pub each : (k : ℕ) (member : Member) (memory : List ℕ) → slice_get line k ≡ Some member → slice_get machines k ≡ Some memory → IsReadyFor member memory
+  pub each : (k : ℕ) (member : Member) (memory : List ℕ) → slice_get line k ≡ Some member → slice_get machines k ≡ Some memory → CanBeProgrammed member memory
 
--- the machine of a slave: it has all its memory, the slave's station address is a number of 16 bits, and it is ready for the slave
+-- the machine of a slave: it has all its memory, the slave's station address is a number of 16 bits, and it can be programmed for the slave
 pub record IsMachineOf (member : Member) (memory : List ℕ) : Type 0 where
   pub size : length memory ≡ MEMORY_BYTES
   pub address : member.slave.station < 2 ^ 16
-  pub ready : IsReadyFor member memory
+  pub programmable : CanBeProgrammed member memory
 
 -- machines are the line's, in its order
 pub record AreMachinesOf (line : List Member) (machines : List (List ℕ)) : Type 0 where
@@ -51,8 +51,8 @@ pub record IsProgrammed (line : List Member) (member : Member) (memory : List �
 abbrev pub ChangesBlocksAlone : List ℕ → List ℕ → Type 0
 ChangesBlocksAlone memory memory' = (byte : ℕ) → (byte < FMMU_BLOCKS) ⊎ (MEMORY_START ≤ byte) → slice_index memory' byte ≡ slice_index memory byte
 
--- one of a slave's sixteen FMMUs pairs logical bit x with memory bit m
-pub record SlavePairs (memory : List ℕ) (x m : ℕ) : Type 0 where
+-- (e of Pairs) x and m are a pair of one of the sixteen FMMU blocks in a machine's memory
+pub record MachinePairs (memory : List ℕ) (x m : ℕ) : Type 0 where
   pub fmmu : ℕ
   pub below : fmmu < FMMUS
   pub pair : IsPair (fmmu_block_at memory fmmu) x m

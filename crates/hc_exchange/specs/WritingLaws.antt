@@ -5,8 +5,8 @@ use Rattle.hc_records.specs.Line.{Member, State, line}
 use Rattle.hc_registers.specs.Blocks.{line_blocks}
 use Rattle.hc_segment.specs.Line.{machines_after}
 use Rattle.hc_exchange.specs.PairLaws.{IsConfigurable}
-use Rattle.hc_exchange.specs.Pairs.{AreasPair}
-use Rattle.hc_exchange.specs.Writing.{AreMachinesOf, ChangesBlocksAlone, IsProgrammed, SlavePairs, write_frames}
+use Rattle.hc_exchange.specs.Pairs.{LinePairs}
+use Rattle.hc_exchange.specs.Writing.{AreMachinesOf, ChangesBlocksAlone, IsProgrammed, MachinePairs, write_frames}
 
 -- the machines of a line after the frames that write all its blocks
 abbrev pub machines_written : List Member → List (List ℕ) → List (List ℕ)
@@ -35,7 +35,7 @@ WritingKeepsTheCount =
 abbrev pub ProgrammedSlavesPairTheirAreas : Type 0
 ProgrammedSlavesPairTheirAreas =
     (state : State) (member : Member) (memory : List ℕ) (x m : ℕ) → IsConfigurable state → Contains (line state) member → IsProgrammed (line state) member memory
-    → SlavePairs memory x m ↔ AreasPair (line state) member.slave.station x m
+    → MachinePairs memory x m ↔ LinePairs (line state) member.slave.station x m
 
 -- and where each number of the machines' memories is a byte, so is it after the writes
 abbrev pub WritingKeepsBytes : Type 0

@@ -5,7 +5,7 @@ ghost use Rattle.hc_records.specs.Line.{line};
 ghost use Rattle.hc_segment.specs.Line.{frame_through, frames_through, machines_after, machines_after_frame};
 ghost use Rattle.hc_machine.specs.declared.limits.TheConstants.{MEMORY_BYTES};
 ghost use Rattle.hc_exchange.specs.Carrying.{AreCarryingTask};
-ghost use Rattle.hc_exchange.specs.Exchanged.{IsExchangedByCarriers, IsExchangedIfCarrying, IsExchangedIfReady};
+ghost use Rattle.hc_exchange.specs.Exchanged.{IsExchangedByCarriers, IsExchangedIfCarrying, IsExchangedIfProgrammable};
 ghost use Rattle.hc_exchange.specs.Holding.{IsExchangedWhenReady};
 ghost use Rattle.hc_exchange.specs.Sent.{IsSent, IsSentOver};
 
@@ -51,7 +51,7 @@ fn pass_all(segment: &mut Segment, frames: &mut [Vec<u8>])
     }
 }
 
-/// The same of a list of frames.
+/// Passes each frame of a list through the machines, in its place.
 fn send_all(segment: &mut Segment, frames: &mut Vec<Vec<u8>>)
     ensures frames { map (λ frame. frame.items) frames.new.items ≡ frames_through segment.old (map (λ frame. frame.items) frames.old.items) }
     ensures machines { segment.new ≡ machines_after segment.old (map (λ frame. frame.items) frames.old.items) }
@@ -78,7 +78,7 @@ pub fn exchange(
     outputs: &[u8],
 ) -> Result<Vec<Vec<u8>>, AllocError>
     ensures sent { IfOk result (λ frames. IsSent (line plan.now) task outputs.now segment.old (map (λ frame. frame.items) frames.items) segment.new) }
-    ensures meant { IfOk result (λ frames. IsExchangedIfReady (line plan.now) task outputs.now segment.old (map (λ frame. frame.items) frames.items) segment.new) }
+    ensures meant { IfOk result (λ frames. IsExchangedIfProgrammable (line plan.now) task outputs.now segment.old (map (λ frame. frame.items) frames.items) segment.new) }
     ensures unchanged { OnErr result (segment.new ≡ segment.old) }
 {
     let places = plan.places();

@@ -1,5 +1,5 @@
--- A frame that arrived, by its bytes: which fault it has, and what it carries if it has none
--- (ETG.1000.4, frame, EtherCAT header and datagram structure; this project's profile).
+-- A frame that arrived, from its bytes: its fault, or its serial and datagrams if it has none (ETG.1000.4, frame, EtherCAT
+-- header and datagram structure; this project's profile).
 use Rattle.std.specs.Prelude.{◌≡◌, ℕ, zero, suc, ◌+◌, ◌*◌, ◌/◌, ◌%◌, ◌==◌, nat_lt, nat_le, Bool, true, false, ◌&&◌, ◌||◌, not, List, [], ◌∷◌, length, take, drop, map, slice_index, slice_range, Option, Some, None, is_none, unwrap_or, Result, Ok, Err, if◌then◌else◌}
 use Rattle.std.specs.List.{list_all, list_any}
 use Rattle.hc_frames.specs.declared.commands.Command.TheVariants.{Lrw}
@@ -11,11 +11,11 @@ use Rattle.hc_frames.specs.FrameText.{WireDatagram}
 
 -- ---- numbers in bytes
 
--- the number in two bytes, and in four, low byte first
+-- the numbers in two bytes and in four, low byte first
 abbrev pub word_at : List ℕ → ℕ → ℕ
 word_at bytes at = slice_index bytes at + 256 * slice_index bytes (at + 1)
 
--- the number in the four bytes from byte `at` on, counted from 0, low byte first; a byte that is missing counts as 0
+-- the number in the four bytes from byte `at` on, counted from 0, low byte first; a missing byte counts as 0
 abbrev pub long_at : List ℕ → ℕ → ℕ
 long_at bytes at = word_at bytes at + 65536 * word_at bytes (at + 2)
 
@@ -26,21 +26,21 @@ abbrev pub serial_in : List ℕ → ℕ
 serial_in bytes =
     slice_index bytes 11 + 256 * (slice_index bytes 10 + 256 * (slice_index bytes 9 + 256 * (slice_index bytes 8 + 256 * slice_index bytes 7)))
 
--- bits 0 to 10 of the EtherCAT header: the bytes of the datagrams
+-- bits 0 to 10 of the EtherCAT header: the number of bytes of the datagrams
 abbrev pub datagram_bytes : List ℕ → ℕ
 datagram_bytes bytes = word_at bytes 14 % 2048
 
--- those bytes
+-- the bytes of the datagrams, as the EtherCAT header counts them
 abbrev pub region : List ℕ → List ℕ
 region bytes = take (datagram_bytes bytes) (drop 16 bytes)
 
--- ---- fields of a datagram, which is at the front of these bytes
+-- ---- fields of the datagram at the front of these bytes
 
 -- bits 0 to 10 of the length field: the number of data bytes
 abbrev pub data_size : List ℕ → ℕ
 data_size bytes = word_at bytes 6 % 2048
 
--- 1 to 1,486 data bytes, bits 11 to 13 of the length field clear, and all bytes up to the working counter's last are there
+-- 1 to 1,486 data bytes, bits 11 to 13 of the length field clear, and all bytes up to the end of the working counter present
 abbrev pub is_whole : List ℕ → Bool
 is_whole bytes =
     nat_le 1 (data_size bytes) && (nat_le (data_size bytes) MAX_DATA && ((word_at bytes 6 / 2048 % 8 == 0) && nat_le (12 + data_size bytes) (length bytes)))
@@ -57,11 +57,11 @@ says_more bytes = nat_le 32768 (word_at bytes 6)
 abbrev pub is_unknown : List ℕ → Bool
 is_unknown bytes = is_none (command_of (slice_index bytes 0))
 
--- the second byte of the datagram at the front isn't this index
+-- the second byte of the datagram at the front is not this index
 abbrev pub has_other_index : ℕ → List ℕ → Bool
 has_other_index index bytes = not (slice_index bytes 1 == index)
 
--- what the datagram carries (its command is looked at where it is known alone)
+-- the content of a datagram; the command is meaningful only if it is known
 abbrev pub datagram_carried : List ℕ → WireDatagram
 datagram_carried bytes = record {
   command = unwrap_or (command_of (slice_index bytes 0)) Lrw;
@@ -89,7 +89,7 @@ more_between [] = true
 more_between (d ∷ []) = true
 more_between (d ∷ e ∷ ds) = says_more d && more_between (e ∷ ds)
 
--- the last one says so
+-- the last datagram says that more follow
 abbrev pub more_at_end : List (List ℕ) → Bool
 more_at_end [] = false
 more_at_end (d ∷ []) = says_more d
@@ -105,15 +105,15 @@ fill_region ds = nat_lt 0 (length ds) && (list_all is_whole ds && more_between d
 abbrev pub is_short : List ℕ → Bool
 is_short bytes = nat_lt (length bytes) LEAST_READ
 
--- the EtherType isn't 88a4
+-- the EtherType is not 88a4
 abbrev pub is_not_ethercat : List ℕ → Bool
 is_not_ethercat bytes = not ((slice_index bytes 12 == 0x88) && (slice_index bytes 13 == 0xa4))
 
--- bits 11 to 15 of the EtherCAT header aren't bit 12 alone
+-- bits 11 to 15 of the EtherCAT header are not bit 12 alone
 abbrev pub has_bad_type : List ℕ → Bool
 has_bad_type bytes = not (word_at bytes 14 / 2048 == 2)
 
--- the header's length is over 1,498, or more than the bytes after the header, or the datagrams don't fill it
+-- the header's length is over 1,498, or more than the bytes after the header, or the datagrams do not fill it
 abbrev pub has_bad_length : List ℕ → Bool
 has_bad_length bytes =
     nat_lt MAX_DATAGRAMS (datagram_bytes bytes) || (nat_lt (length bytes) (16 + datagram_bytes bytes) || not (fill_region (datagram_tails (region bytes))))
@@ -126,11 +126,11 @@ is_circulating bytes = list_any circulates (datagram_tails (region bytes))
 abbrev pub promises_more : List ℕ → Bool
 promises_more bytes = more_at_end (datagram_tails (region bytes))
 
--- one of the datagrams has a command that isn't known here
+-- one of the datagrams has a command that is not known here
 abbrev pub has_unknown_command : List ℕ → Bool
 has_unknown_command bytes = list_any is_unknown (datagram_tails (region bytes))
 
--- the index of a datagram isn't the serial modulo 256
+-- the index of a datagram is not the serial modulo 256
 abbrev pub mismatches : List ℕ → Bool
 mismatches bytes = list_any (has_other_index (serial_in bytes % 256)) (datagram_tails (region bytes))
 
@@ -147,32 +147,32 @@ fault_in bytes =
     else (if mismatches bytes then Some IndexMismatch
     else None)))))))
 
--- ---- what a readable frame gives
+-- ---- the content of a readable frame
 
--- what a readable frame gives: its serial and its datagrams in order
+-- the content of a readable frame: its serial and its datagrams in order
 pub record Reading : Type 0 where
   pub serial : ℕ
   pub parts : List WireDatagram
 
--- what bytes say when they are read as a frame
+-- bytes read as a frame: the fault, or the content
 abbrev pub reading_of : List ℕ → Reading
 reading_of bytes = record { serial = serial_in bytes; parts = map datagram_carried (datagram_tails (region bytes)) }
 
--- a datagram of a frame with the place of its first byte in the frame
+-- a datagram of a frame with the offset of its first byte in the frame
 pub record ArrivedDatagram : Type 0 where
   pub start : ℕ
   pub carried : WireDatagram
 
--- datagrams one after another, from this byte on
+-- datagrams one after another with their offsets, the first at this one
 abbrev pub placed_from : ℕ → List WireDatagram → List ArrivedDatagram
 placed_from start [] = []
 placed_from start (d ∷ ds) = record { start = start; carried = d } ∷ placed_from (start + (12 + length d.bytes)) ds
 
--- the datagrams of these bytes, each with the place where it begins; the first begins at this one
+-- the datagrams of these bytes with their offsets, the first at this one
 abbrev pub datagrams_placed : ℕ → List ℕ → List ArrivedDatagram
 datagrams_placed start bytes = placed_from start (map datagram_carried (datagram_tails bytes))
 
--- the fault, or what the frame gives
+-- the result is the frame's fault, or its content
 abbrev pub Answers : List ℕ → Result Reading FrameFault → Type 0
 Answers bytes (Ok reading) = (fault_in bytes ≡ None) × (reading ≡ reading_of bytes)
 Answers bytes (Err fault) = fault_in bytes ≡ Some fault

@@ -1,4 +1,4 @@
--- The frame that is left when all loans of an opened frame are over.
+-- The frame that remains after all loans of an opened frame.
 use Rattle.std.specs.Prelude.{ℕ, ◌≡◌, List, [], ◌∷◌, ◌++◌, length}
 use Rattle.hc_frames.specs.FrameText.{Datagram, sent_datagram_text, frame_head, frame_text, padding, lrw}
 use Rattle.hc_frames.specs.Handing.{more_follow}
@@ -17,13 +17,13 @@ datagrams_filled [] parts = []
 datagrams_filled (d ∷ ds) [] = []
 datagrams_filled (d ∷ ds) (part ∷ parts) = lrw d.0 part ∷ datagrams_filled ds parts
 
--- what the loans leave one before the other, and before these bytes
+-- the bytes that the loans leave, one before the other, and before these bytes
 abbrev pub handed_back : ℕ → List (ℕ × ℕ) → List (List ℕ) → List ℕ → List ℕ
 handed_back serial [] parts after_it = after_it
 handed_back serial (d ∷ ds) [] after_it = after_it
 handed_back serial (d ∷ ds) (part ∷ parts) after_it = sent_datagram_text serial (more_follow (d ∷ ds)) (lrw d.0 part) ++ handed_back serial ds parts after_it
 
--- after the head they are the whole frame of the datagrams with their data
+-- the bytes after the head are those of the whole frame of the datagrams with their data
 abbrev pub FilledFrame : Type 0
 FilledFrame =
     (serial : ℕ) (ds : List (ℕ × ℕ)) (parts : List (List ℕ)) (tail : List ℕ) → FitsParts ds parts

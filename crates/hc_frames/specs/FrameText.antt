@@ -1,5 +1,5 @@
--- How a frame is spelled on the line (ETG.1000.4, frame, EtherCAT header and datagram structure).
--- The EtherType and the serial are high byte first, all other numbers low byte first.
+-- The bytes of a frame on the line (ETG.1000.4, frame, EtherCAT header and datagram structure). The EtherType and the serial
+-- are high byte first, all other numbers low byte first.
 use Rattle.std.specs.Prelude.{ℕ, ◌+◌, ◌-◌, ◌*◌, ◌%◌, Bool, true, false, List, [], ◌∷◌, ◌++◌, length, map, replicate, if◌then◌else◌}
 use Rattle.std.specs.Int.{w16, w32, to_le_bytes, bytes_high_first}
 use Rattle.hc_registers.specs.declared.registers.TheConstants.{FMMU_BLOCKS, FMMU_BLOCK_BYTES}
@@ -16,7 +16,7 @@ pub record WireDatagram : Type 0 where
   pub bytes : List ℕ
   pub counter : ℕ
 
--- bits 0 to 10 the number of data bytes, bits 11 to 14 clear, bit 15 set where more datagrams follow
+-- bits 0 to 10 the number of data bytes, bits 11 to 14 clear, bit 15 set if more datagrams follow
 abbrev pub length_field : ℕ → Bool → ℕ
 length_field size more = size + (if more then 32768 else 0)
 
@@ -29,13 +29,13 @@ carried_head index command address size more interrupt =
 abbrev pub carried_text : ℕ → Bool → WireDatagram → List ℕ
 carried_text serial more d = carried_head (serial % 256) d.command d.address (length d.bytes) more d.interrupt ++ d.bytes ++ to_le_bytes w16 d.counter
 
--- datagrams one after another: more follow each but the last
+-- datagrams one after another; each but the last is followed by more
 abbrev pub carried_texts : ℕ → List WireDatagram → List ℕ
 carried_texts serial [] = []
 carried_texts serial (d ∷ []) = carried_text serial false d
 carried_texts serial (d ∷ e ∷ ds) = carried_text serial true d ++ carried_texts serial (e ∷ ds)
 
--- whether a datagram that is before these is followed by more
+-- whether a datagram before these is followed by more
 abbrev pub has_more : List WireDatagram → Bool
 has_more [] = false
 has_more (d ∷ ds) = true
@@ -44,7 +44,7 @@ has_more (d ∷ ds) = true
 abbrev pub head_to : List ℕ → ℕ → ℕ → ℕ → List ℕ
 head_to destination first serial size = destination ++ first ∷ bytes_high_first 5 serial ++ 0x88 ∷ 0xa4 ∷ to_le_bytes w16 (size + 4096)
 
--- a frame on the line, with what is after its datagrams
+-- a frame on the line, with the bytes after its datagrams
 abbrev pub carried_frame : List ℕ → ℕ → ℕ → List WireDatagram → List ℕ → List ℕ
 carried_frame destination first serial ds after_it =
     let text = carried_texts serial ds in head_to destination first serial (length text) ++ text ++ after_it
@@ -55,7 +55,7 @@ pub record Datagram : Type 0 where
   pub address : ℕ
   pub bytes : List ℕ
 
--- as sent, its interrupt field and its working counter are 0
+-- a datagram as sent: its interrupt field and its working counter are 0
 abbrev pub sent_on_wire : Datagram → WireDatagram
 sent_on_wire d = record { command = d.command; address = d.address; interrupt = 0; bytes = d.bytes; counter = 0 }
 
@@ -63,7 +63,7 @@ sent_on_wire d = record { command = d.command; address = d.address; interrupt = 
 abbrev pub datagram_head : ℕ → Command → ℕ → ℕ → Bool → List ℕ
 datagram_head index command address size more = carried_head index command address size more 0
 
--- a datagram as it is sent in the frame with a serial, where more follow it or none
+-- a datagram as it is sent in the frame with a serial, followed by more or not
 abbrev pub sent_datagram_text : ℕ → Bool → Datagram → List ℕ
 sent_datagram_text serial more d = carried_text serial more (sent_on_wire d)
 
@@ -111,6 +111,7 @@ station_write position station = record { command = Apwr; address = position_add
 abbrev pub alias_read : ℕ → Datagram
 alias_read position = record { command = Aprd; address = position_address position ALIAS_REGISTER; bytes = 0 ∷ 0 ∷ [] }
 
--- a write of zeros to the first FMMUs of the slave at a station address, as many as `count`: a slave with no other FMMU in use takes no part in process data after it
+-- a write of zeros to the first `count` FMMUs of the slave at a station address; a slave that took it and uses no other FMMU
+-- takes no part in process data
 abbrev pub fmmu_off : ℕ → ℕ → Datagram
 fmmu_off station count = block_write station FMMU_BLOCKS (replicate (FMMU_BLOCK_BYTES * count) 0)

@@ -1,4 +1,4 @@
--- What follows from the definitions of texts and readings.
+-- Laws of frames' bytes and their readings.
 use Rattle.std.specs.Prelude.{◌≡◌, ℕ, ◌+◌, ◌^◌, ◌<◌, ◌≤◌, Bool, true, List, ◌∷◌, ◌++◌, length, take, drop, map, All, None, slice_index}
 use Rattle.std.specs.List.{flat_map}
 use Rattle.hc_frames.specs.declared.limits.TheConstants.{MAX_DATAGRAMS}
@@ -13,7 +13,8 @@ BlankDatagramsAreFilled =
     (serial : ℕ) (more : Bool) (d : ℕ × ℕ) (bytes : List ℕ) → length bytes ≡ d.1
     → let blank = sent_datagram_text serial more (blank_lrw d) in take 10 blank ++ bytes ++ drop (10 + d.1) blank ≡ sent_datagram_text serial more (lrw d.0 bytes)
 
--- so is a frame with other data in place of a datagram's zeros, which are 26 bytes and the datagrams before it further
+-- a frame with other data in place of a datagram's zeros is the frame with these data; they begin 26 bytes and the datagrams
+-- before it after the frame's first byte
 abbrev pub BlankFramesAreFilled : Type 0
 BlankFramesAreFilled =
     (serial : ℕ) (before : List Datagram) (d : ℕ × ℕ) (after : List Datagram) (bytes : List ℕ) → length bytes ≡ d.1
@@ -21,13 +22,13 @@ BlankFramesAreFilled =
     let at = 26 + text_size (map sent_on_wire before) in
     take at blank ++ bytes ++ drop (at + d.1) blank ≡ frame_text serial (before ++ lrw d.0 bytes ∷ after)
 
--- the texts of two lists of datagrams in a row: those of the first list, each followed by more, then those of the second
+-- the bytes of two lists of datagrams in a row: those of the first list, each followed by more, then those of the second
 abbrev pub TextsAreJoined : Type 0
 TextsAreJoined =
     (serial : ℕ) (ds : List WireDatagram) (e : WireDatagram) (es : List WireDatagram)
     → carried_texts serial (ds ++ e ∷ es) ≡ flat_map (carried_text serial true) ds ++ carried_texts serial (e ∷ es)
 
--- a frame has the bytes of its head and its datagrams, and the least frame's at least
+-- a frame has the bytes of its head and its datagrams, and at least those of the shortest frame
 abbrev pub FramesHaveTheirSize : Type 0
 FramesHaveTheirSize = (serial : ℕ) (ds : List Datagram) → length (frame_text serial ds) ≡ frame_bytes (text_size (map sent_on_wire ds))
 
@@ -38,18 +39,19 @@ pub record CanBeCarried (serial : ℕ) (parts : List WireDatagram) : Type 0 wher
   pub fits : All FitsLine parts
   pub within : text_size parts ≤ MAX_DATAGRAMS
 
--- a frame is read as it was spelled, to whatever destination of six bytes, from whatever first source byte, with whatever bytes after it
+-- a frame is read as it was written, for every destination of six bytes, every first source byte, and any bytes after it
 abbrev pub CarriedFramesAreRead : Type 0
 CarriedFramesAreRead =
     (destination : List ℕ) (first serial : ℕ) (parts : List WireDatagram) (after_it : List ℕ) → length destination ≡ 6 → CanBeCarried serial parts
     → let bytes = carried_frame destination first serial parts after_it in (fault_in bytes ≡ None) × (reading_of bytes ≡ record { serial = serial; parts = parts })
 
--- what slaves leave in the interrupt field and the working counter fits the 16 bits of each
+-- the interrupt field and the working counter that slaves leave fit 16 bits each
 pub record FitsFields (part : WireDatagram) : Type 0 where
   pub interrupt : part.interrupt < 2 ^ 16
   pub counter : part.counter < 2 ^ 16
 
--- of a sending that a frame can carry, a returned text is readable, and gives the sending's serial, commands, numbers of data bytes, and addresses of stations and process data, with the data and the counters that it carries
+-- the returned bytes of a sending that a frame can carry are readable: they give the sending's serial, commands, numbers of
+-- data bytes, and addresses of stations and process data, with the data and counters that came back
 abbrev pub ReturnedFramesAreRead : Type 0
 ReturnedFramesAreRead =
     (serial : ℕ) (ds : List Datagram) (parts : List WireDatagram) (bytes : List ℕ) → CanBeCarried serial (map sent_on_wire ds) → IsReturned serial ds parts bytes → All FitsFields parts
@@ -58,11 +60,11 @@ ReturnedFramesAreRead =
     × (map (λ (part : WireDatagram). length part.bytes) parts ≡ map (λ (d : Datagram). length d.bytes) ds)
     × (AllAddressed ds → map (λ (part : WireDatagram). part.address) parts ≡ map (λ (d : Datagram). d.address) ds)
 
--- a frame as sent, followed by any bytes, is a returned text of its sending
+-- a frame as sent, followed by any bytes, is a returned frame of its sending
 abbrev pub SentFramesAreReturned : Type 0
 SentFramesAreReturned = (serial : ℕ) (ds : List Datagram) (after_it : List ℕ) → IsReturned serial ds (map sent_on_wire ds) (frame_text serial ds ++ after_it)
 
--- and is read as it was built
+-- a frame as sent is read as it was built
 abbrev pub BuiltFramesAreRead : Type 0
 BuiltFramesAreRead =
     (serial : ℕ) (ds : List Datagram) (after_it : List ℕ) → CanBeCarried serial (map sent_on_wire ds)
@@ -76,14 +78,15 @@ FramesHaveOneReading =
     → carried_frame destination first serial parts after_it ≡ carried_frame destination2 first2 serial2 parts2 after2
     → (serial ≡ serial2) × (parts ≡ parts2)
 
--- a readable frame is spelled by what it gives, with the destination, the first source byte and the bytes after its datagrams that it has
+-- a readable frame has the bytes of its content, with its own destination, first source byte and bytes after its datagrams
 abbrev pub ReadableFramesAreCarried : Type 0
 ReadableFramesAreCarried =
     (bytes : List ℕ) → All (λ b. b < 256) bytes → fault_in bytes ≡ None
     → CanBeCarried (reading_of bytes).serial (reading_of bytes).parts
     × (bytes ≡ carried_frame (take 6 bytes) (slice_index bytes 6) (reading_of bytes).serial (reading_of bytes).parts (drop (16 + datagram_bytes bytes) bytes))
 
--- a readable frame with another datagram of as many data bytes in the place of one is read so, and as before round it
+-- a readable frame with another datagram of as many data bytes in place of one is read with that datagram, and otherwise as
+-- before
 abbrev pub PartsAreReplaced : Type 0
 PartsAreReplaced =
     (bytes : List ℕ) → All (λ b. b < 256) bytes → fault_in bytes ≡ None

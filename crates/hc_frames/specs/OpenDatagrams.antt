@@ -1,4 +1,4 @@
--- Datagrams whose data parts are still to be handed out.
+-- Datagrams whose data parts are still to be lent.
 use Rattle.std.specs.Prelude.{ℕ, ◌≡◌, List, [], ◌∷◌, ◌++◌, drop, map}
 use Rattle.hc_frames.specs.FrameText.{sent_datagrams_text, blank_lrw}
 use Rattle.hc_frames.specs.Sizes.{datagrams_size}

@@ -1,4 +1,4 @@
--- What the reader knows of a frame before it looks at the datagrams, and what a pass over them adds.
+-- The reader's steps: the frame before its datagrams are read, and a pass over the datagrams.
 use Rattle.std.specs.Prelude.{◌≡◌, ℕ, ◌+◌, ◌≤◌, false, List, length, Option, Some, None, if◌then◌else◌}
 use Rattle.hc_frames.specs.declared.limits.TheConstants.{LEAST_READ, MAX_DATAGRAMS}
 use Rattle.hc_frames.specs.declared.reading.datagrams.Survey.{Survey}
@@ -6,7 +6,7 @@ use Rattle.hc_frames.specs.declared.reading.faults.FrameFault.{FrameFault}
 use Rattle.hc_frames.specs.declared.reading.faults.FrameFault.TheVariants.{Circulating, MoreFollows, UnknownCommand, IndexMismatch}
 use Rattle.hc_frames.specs.Arrived.{datagram_bytes, has_bad_type, is_not_ethercat, region}
 
--- the bytes of the datagrams, where no condition holds that shows before they are looked at
+-- the bytes of the datagrams, if no condition holds that shows before they are read
 pub record ComesAfter (bytes found : List ℕ) : Type 0 where
   pub found_there : found ≡ region bytes
   pub long : LEAST_READ ≤ length bytes

@@ -1,4 +1,4 @@
--- How many bytes a frame has.
+-- The length of a frame in bytes.
 use Rattle.std.specs.Prelude.{ℕ, ◌+◌, ◌<◌, ◌≤◌, max, List, length, All, sum_by}
 use Rattle.hc_frames.specs.declared.limits.TheConstants.{LEAST_FRAME, MAX_ETHERCAT}
 use Rattle.hc_frames.specs.FrameText.{WireDatagram}

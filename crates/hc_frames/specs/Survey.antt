@@ -1,9 +1,9 @@
--- What one pass over the datagrams of a frame finds.
+-- A pass over the datagrams of a frame.
 use Rattle.std.specs.Prelude.{ℕ, ◌+◌, true, false, ◌&&◌, ◌||◌, List, [], ◌∷◌, Option, Some, None, if◌then◌else◌}
 use Rattle.hc_frames.specs.declared.reading.datagrams.Survey.{Survey}
 use Rattle.hc_frames.specs.Arrived.{circulates, has_other_index, is_unknown, is_whole, says_more}
 
--- with one datagram more
+-- the survey with one more datagram
 abbrev pub noted : ℕ → Survey → List ℕ → Survey
 noted index seen d = record {
   count = seen.count + 1;
@@ -13,11 +13,11 @@ noted index seen d = record {
   mismatch = seen.mismatch || has_other_index index d;
 }
 
--- over all of them, one after another: none where one isn't whole or wasn't promised by the one before it
+-- the survey of all datagrams, one after another: none if one is not whole, or was not promised by the one before it
 abbrev pub surveyed : ℕ → Survey → List (List ℕ) → Option Survey
 surveyed index seen [] = Some seen
 surveyed index seen (d ∷ ds) = if seen.more && is_whole d then surveyed index (noted index seen d) ds else None
 
--- before the first
+-- the survey before the first datagram
 abbrev pub nothing_seen : Survey
 nothing_seen = record { count = 0; circulates = false; more = true; unknown = false; mismatch = false }

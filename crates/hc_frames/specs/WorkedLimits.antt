@@ -22,7 +22,7 @@ head-bytes = refl
 datagram-head_bytes : DATAGRAM_HEAD_BYTES ≡ 10
 datagram-head_bytes = refl
 
--- and 2 bytes of working counter after them
+-- a datagram has 2 bytes of working counter after its data
 beside-data_bytes : BESIDE_DATA_BYTES ≡ 12
 beside-data_bytes = refl
 

@@ -1,4 +1,4 @@
-//! Writes frames and datagrams as sent. The core, the conductor's workers and the program's line call it.
+//! Builders of frames and datagrams as they are sent. The core, the conductor's workers and the program's line call them.
 
 use thiserror::Error;
 

@@ -1,4 +1,4 @@
-//! The commands of a datagram, as enum and as number. Builders and the reader call it.
+//! The commands of datagrams, as an enum and as numbers. Builders and the reader use them.
 ghost use Rattle.std.specs.Prelude.{◌≡◌};
 ghost use Rattle.hc_frames.specs.Commands.{code_of, command_of};
 
@@ -16,14 +16,14 @@ pub enum Command {
 }
 
 impl Command {
-    /// The number that is in a datagram's first byte.
+    /// Returns the number in a datagram's first byte.
     pub fn code(self) -> u8
         ensures { result ≡ code_of self }
     {
         self as u8
     }
 
-    /// The command with this number, of those that this project uses. None for every other number.
+    /// Returns the command with this number, or `None` if this project does not use it.
     pub fn of(code: u8) -> Option<Command>
         ensures { result ≡ command_of code }
     {

@@ -1,6 +1,6 @@
-//! EtherCAT frames as byte texts (ETG.1000.4, frame, header and datagram structure): the builders write exactly the text
-//! that `specs/FrameText` spells, and the reader says of every byte list what `specs/Arrived` says of it. The core and
-//! the segment call this crate; it takes no memory.
+//! EtherCAT frames as bytes (ETG.1000.4, frame, header and datagram structure). The builders write exactly the bytes of
+//! `specs/FrameText`, and the reader returns for every list of bytes what `specs/Arrived` defines. The core and the segment
+//! call this crate. It allocates nothing.
 #![tactic(auto)]
 
 pub mod building;
@@ -9,4 +9,6 @@ pub mod laws;
 pub mod limits;
 pub mod reading;
 
+pub use building::Room;
 pub use commands::Command;
+pub use reading::{FrameFault, Part, Returned, read_frame};

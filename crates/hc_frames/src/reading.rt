@@ -1,4 +1,4 @@
-//! Reads frames that return. The core and the segment call it.
+//! The reader of frames that return. The core and the segment call it.
 
 mod datagrams;
 mod faults;

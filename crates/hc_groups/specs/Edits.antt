@@ -1,4 +1,4 @@
--- What an edit asks of declared groups by itself, and what it changes in an area.
+-- An edit by itself: its own faults beside the declared groups, and the area that it changes.
 use Rattle.std.specs.Prelude.{ℕ, Bool, List, [], ◌∷◌, Option}
 use Rattle.hc_records.specs.declared.records.Area.{Area}
 use Rattle.hc_records.specs.declared.records.Declared.{Declared}
@@ -25,7 +25,7 @@ abbrev pub assigning_faults : Area → List ℕ → List (Bool × EditFault)
 assigning_faults area pdos =
     (has_unknown pdos area, UnknownPdo) ∷ (has_repeat pdos, RepeatedPdo) ∷ (is_too_big pdos area, AreaTooBig) ∷ []
 
--- what a change makes of an area
+-- an area after a change of it
 abbrev pub changed_area : AreaChange → Area → Area
 changed_area (Pdos pdos) area = record area { assigned = pdos.now }
 changed_area (Task task) area = record area { task = task }

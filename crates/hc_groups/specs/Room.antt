@@ -1,4 +1,4 @@
--- A declared group's way into an index: the memory that it takes, and what the index takes of the group.
+-- A declared group that is added to an index: the memory that this needs, and the facts of the group that the index stores.
 use Rattle.std.specs.Prelude.{◌≡◌, ℕ, ◌+◌, ◌<◌, ◌≤◌, All, List, [], ◌∷◌, ◌++◌, None, length, map, sum_by}
 use Rattle.std.specs.List.Sorted.{IsNonDecreasing, IsPermutation}
 use Rattle.hc_records.specs.declared.records.Declared.{Declared}
@@ -18,8 +18,9 @@ pub record CanEnter (index : Index) (group : Group) : Type 0 where
   pub is : IsIndexOf groups index
   pub project : lowest_fault (groups_of (groups ++ absent group ∷ [])) ≡ None
 
--- for how many elements each list of the index has room; of the group's slaves the station addresses with their ranks, a number that is
--- above all of these addresses, the variables, in the order of their numbers, and the sums of their blocks
+-- the capacity that each list of the index has for more elements, and the facts of the group's slaves: the station addresses
+-- with their ranks, a number above all of these addresses, the variables in the order of their numbers, and the sums of their
+-- blocks
 pub record IndexRoom : Type 0 where
   pub aliases : ℕ
   pub stations : ℕ
@@ -35,7 +36,7 @@ pub record IndexRoom : Type 0 where
   pub names : List ℕ
   pub sums : List ℕ
 
--- there is room for one element more in each list that has one for each group
+-- each list with an element for each group has the capacity for one more
 pub record IsGroupRoom (index : Index) (room : GroupRoom) : Type 0 where
   pub aliases : length index.aliases + 1 ≤ room.aliases
   pub fronts : length index.fronts + 1 ≤ room.fronts
@@ -43,16 +44,16 @@ pub record IsGroupRoom (index : Index) (room : GroupRoom) : Type 0 where
   pub slaves : length index.slaves + 1 ≤ room.slaves
   pub blocks : length index.blocks + 1 ≤ room.blocks
 
--- there is room for so many slaves with what an index takes of them: the ranks up to their highest station address, their variables, their groups' numbers, and a
--- position of the line for each
+-- there is capacity for this many slaves with their facts: the ranks up to their highest station address, their variables,
+-- their groups' numbers, and a position of the line for each
 pub record IsSlaveRoom (index : Index) (entry : Entry) (count : ℕ) (room : SlaveRoom) : Type 0 where
   pub stations : entry.reach ≤ room.stations
   pub variables : length index.variables + length entry.names.items ≤ room.variables
   pub owners : length index.owners + count ≤ room.owners
   pub line : length index.line + count ≤ room.line
 
--- there is room for what a group brings after these groups: one element in each list that has one for each group, one for each of its slaves and of its
--- variables, and the ranks up to its highest station address; and that is what an index takes of it
+-- there is capacity for a further group: one element in each list that has one for each group, one for each of its slaves and
+-- of its variables, and the ranks up to its highest station address; and these are the facts of the group
 pub record IsIndexRoomFor (groups : List Declared) (group : Group) (room : IndexRoom) : Type 0 where
   pub aliases : length groups + 1 ≤ room.aliases
   pub stations : room.reach ≤ room.stations
@@ -69,7 +70,7 @@ pub record IsIndexRoomFor (groups : List Declared) (group : Group) (room : Index
   pub order : IsNonDecreasing room.names
   pub sums : room.sums ≡ sums_from slave_block_count 0 group.slaves
 
--- the group enters after the groups of the index, in this memory
+-- the group is added after the groups of the index, in this memory
 pub record IndexCanAdmit (index : Index) (group : Group) (room : IndexRoom) : Type 0 where
   pub groups : List Declared
   pub is : IsIndexOf groups index

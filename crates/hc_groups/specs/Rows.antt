@@ -1,4 +1,4 @@
--- Which slaves a change concerns, by their ranks, and what it makes of their areas in the line.
+-- The slaves that a change concerns, by their ranks, and their areas in the line after it.
 use Rattle.std.specs.Prelude.{◌≡◌, ℕ, ◌+◌, Bool, if◌then◌else◌, List, [], ◌++◌, length, map, option_map, option_to_list, slice_get}
 use Rattle.std.specs.List.{flat_map}
 use Rattle.std.specs.Option.{option_map_or}
@@ -23,33 +23,33 @@ present_ranked present slaves = map (λ slave. record { present = present; slave
 abbrev pub by_rank : List Declared → List Ranked
 by_rank groups = flat_map (λ declared. present_ranked declared.present declared.group.slaves) groups
 
--- the areas that such a slave has in the line: none where its group isn't present
+-- the areas of a declared slave in the line: none if its group is not present
 abbrev pub areas_in_line : Ranked → List Area
 areas_in_line slave = if slave.present then slave.slave.areas else []
 
--- The slaves that a change concerns: those of the group that comes or goes, or the one that gets other areas.
+-- The slaves that a change concerns: those of the group that is connected or disconnected, or the one that gets other areas.
 
--- the rank of the first
+-- the rank of the first of them
 abbrev pub first_rank_of : Prepared → ℕ
 first_rank_of (Presence change) = change.first
 first_rank_of (Areas change) = change.place.rank
 
--- how many they are
+-- the number of them
 abbrev pub prepared_count : Prepared → ℕ
 prepared_count (Presence change) = change.slaves
 prepared_count (Areas change) = 1
 
--- the place of their group
+-- the index of their group
 abbrev pub group_of : Prepared → ℕ
 group_of (Presence change) = change.group
 group_of (Areas change) = change.place.group
 
--- which of the slaves of that group they are
+-- the indexes of them in that group
 abbrev pub named_by : Prepared → List Slave → List Slave
 named_by (Presence change) slaves = slaves
 named_by (Areas change) slaves = option_to_list (slice_get slaves change.place.slave)
 
--- they themselves; none where the groups have no such place
+-- their records; none if there is no group at the index
 abbrev pub row : Prepared → List Declared → List Ranked
 row change groups = option_map_or (λ declared. present_ranked declared.present (named_by change declared.group.slaves)) (slice_get groups (group_of change)) []
 
@@ -58,7 +58,8 @@ abbrev pub given_row : AreasChange → Declared → List Ranked
 given_row change declared =
     present_ranked declared.present (option_to_list (option_map (with_areas change.areas) (slice_get declared.group.slaves change.place.slave)))
 
--- their ranks follow one another, and each other slave is the same, and as present, before the change and after it
+-- the ranks of the concerned slaves follow one another, and each other slave is equal, and as present, before the change and
+-- after it
 pub record ChangesRow (change : Prepared) (groups : List Declared) : Type 0 where
   pub front : List Ranked
   pub after_it : List Ranked

@@ -1,3 +1,3 @@
--- What mirrors the code: only contracts of private functions cite it.
+-- Words that only contracts of private functions cite.
 pub mod Turned
 pub mod Line

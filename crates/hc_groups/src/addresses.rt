@@ -18,7 +18,7 @@ pub struct Address {
     pub rank: u16,
 }
 
-/// Adds the addresses of slaves from this rank on.
+/// Appends the addresses of slaves from this rank on.
 pub(crate) fn add_addresses(
     all: &mut Vec<Address>,
     rank: u16,
@@ -38,7 +38,7 @@ pub(crate) fn add_addresses(
     Ok(())
 }
 
-/// The station addresses of all declared slaves, in declared order.
+/// Returns the station addresses of all declared slaves, in declared order.
 fn declared_addresses(alloc: Global, groups: &[Declared]) -> Result<Vec<Address>, AllocError>
     requires { IsCounted groups.now }
     ensures { IfOk result (λ all. all.items ≡ addresses groups.now) }
@@ -53,7 +53,7 @@ fn declared_addresses(alloc: Global, groups: &[Declared]) -> Result<Vec<Address>
     Ok(all)
 }
 
-/// The highest station address; 0 where there is none.
+/// Returns the highest station address; 0 if there is none.
 pub(crate) fn highest_station(addresses: &[Address]) -> u16
     ensures { All (λ address. address.station ≤ result) addresses.now }
 {
@@ -75,15 +75,15 @@ fn write_ranks(ranks: &mut Vec<u16>, addresses: &[Address])
     }
 }
 
-/// So many zeros.
+/// Returns `n` zeros.
 fn no_ranks(alloc: Global, n: usize) -> Result<Vec<u16>, AllocError>
     ensures { IfOk result (λ ranks. ranks.items ≡ replicate n 0) }
 {
     vec![in alloc; 0; n]
 }
 
-/// At each station address up to the highest of a declared slave the slave's rank, or 0 where none has it.
-/// `AllocError` where a growth was refused.
+/// Returns, for each station address up to the highest of a declared slave, the slave's rank, or 0 if none has it. `AllocError`
+/// if an allocation fails.
 pub(crate) fn ranks_by_station(alloc: Global, groups: &[Declared]) -> Result<Vec<u16>, AllocError>
     requires { IsCounted groups.now }
     ensures { IfOk result (λ ranks. AreRanks (addresses groups.now) ranks.items) }
@@ -95,8 +95,7 @@ pub(crate) fn ranks_by_station(alloc: Global, groups: &[Declared]) -> Result<Vec
     Ok(ranks)
 }
 
-/// Makes ranks reach up to a number, with the help of memory that was taken before: there is no slave at the
-/// station addresses that are added.
+/// Extends ranks up to a number, in memory that was reserved: no slave has the station addresses that are added.
 fn lengthen(ranks: &mut Vec<u16>, room: Room<u16>, reach: usize)
     requires { reach ≤ room }
     ensures reach { reach ≤ length ranks.new.items }
@@ -109,8 +108,7 @@ fn lengthen(ranks: &mut Vec<u16>, room: Room<u16>, reach: usize)
     fill(ranks, room, reach - count, 0);
 }
 
-/// Adds the ranks of slaves at their station addresses, which are all below a number, with the help of memory
-/// that was taken before.
+/// Adds the ranks of slaves at their station addresses, which are all below a number, in memory that was reserved.
 pub(crate) fn add_ranks(ranks: &mut Vec<u16>, room: Room<u16>, addresses: &[Address], reach: usize)
     requires room { reach ≤ room }
     requires reach { All (λ address. address.station < reach) addresses.now }
@@ -121,7 +119,7 @@ pub(crate) fn add_ranks(ranks: &mut Vec<u16>, room: Room<u16>, addresses: &[Addr
     write_ranks(ranks, addresses);
 }
 
-/// The rank of the declared slave with a station address; none where there is none.
+/// Returns the rank of the declared slave with a station address, or `None` if there is none.
 pub(crate) fn find_rank(ranks: &[u16], station: u16) -> Option<u16>
     ensures { (all : List Address) → AreRanks all ranks.now → FindsRank all station result }
 {

@@ -16,7 +16,7 @@ pub struct Alias {
     pub group: u16,
 }
 
-/// The aliases of the declared groups, in declared order.
+/// Returns the aliases of the declared groups, in declared order.
 fn declared_aliases(alloc: Global, groups: &[Declared]) -> Result<Vec<Alias>, AllocError>
     requires { length groups.now < 65536 }
     ensures { IfOk result (λ all. all.items ≡ aliases groups.now) }
@@ -33,7 +33,7 @@ fn declared_aliases(alloc: Global, groups: &[Declared]) -> Result<Vec<Alias>, Al
     Ok(all)
 }
 
-/// The aliases of the declared groups, the lowest first. `AllocError` where a growth was refused.
+/// Returns the aliases of the declared groups, the lowest first. `AllocError` if an allocation fails.
 pub(crate) fn sorted_aliases(alloc: Global, groups: &[Declared]) -> Result<Vec<Alias>, AllocError>
     requires { length groups.now < 65536 }
     ensures same { IfOk result (λ all. IsPermutation (aliases groups.now) all.items) }
@@ -44,7 +44,7 @@ pub(crate) fn sorted_aliases(alloc: Global, groups: &[Declared]) -> Result<Vec<A
     Ok(all)
 }
 
-/// How many aliases are lower than this one.
+/// Returns how many aliases are lower than this one.
 fn count_below(aliases: &[Alias], alias: u16) -> usize
     requires { IsNonDecreasingBy (λ own. own.alias) aliases.now }
     ensures bound { result ≤ length aliases.now }
@@ -53,7 +53,7 @@ fn count_below(aliases: &[Alias], alias: u16) -> usize
     aliases.partition_point(|own| own.alias < alias)
 }
 
-/// The number of the declared group with an alias; none where there is none.
+/// Returns the number of the declared group with an alias, or `None` if there is none.
 pub(crate) fn find_group(aliases: &[Alias], alias: u16) -> Option<u16>
     requires { IsNonDecreasingBy (λ own. own.alias) aliases.now }
     ensures { MatchOption result (All (λ own. own.alias ≢ alias) aliases.now) (λ group. Contains aliases.now (record { alias = alias; group = group })) }
@@ -66,7 +66,7 @@ pub(crate) fn find_group(aliases: &[Alias], alias: u16) -> Option<u16>
     }
 }
 
-/// Adds an alias to others, with the help of memory that was taken before: those after it are shifted once.
+/// Inserts an alias, in memory that was reserved: those after it are shifted once.
 pub(crate) fn add_alias(aliases: &mut Vec<Alias>, room: Room<Alias>, alias: Alias)
     requires order { IsNonDecreasingBy (λ own. own.alias) aliases.old.items }
     requires room { length aliases.old.items + 1 ≤ room }

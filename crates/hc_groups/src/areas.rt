@@ -7,7 +7,7 @@ use hc_records::items::{Copied, Items};
 use hc_records::records::Area;
 use std::alloc::{AllocError, Global};
 
-/// What an edit changes in its area.
+/// The change of an area.
 #[derive(Drop)]
 pub enum AreaChange<'a> {
     /// These PDOs are assigned, in this order.
@@ -16,14 +16,14 @@ pub enum AreaChange<'a> {
     Task(u8),
 }
 
-/// Which area an edit changes, and how.
+/// The area that an edit changes, and its change.
 #[derive(Drop)]
 pub struct AreaEdit<'a> {
     /// The station address of its slave.
     pub station: u16,
-    /// Its place in the slave's record, from 0.
+    /// The index of the area in the slave's record, from 0.
     pub area: u8,
-    /// What changes in it.
+    /// The change of the area.
     pub change: AreaChange<'a>,
 }
 
@@ -60,7 +60,7 @@ fn changed(alloc: Global, area: &Area, change: &AreaChange) -> Result<Area, Allo
     }
 }
 
-/// A copy of an area, changed where it is the one of the edit.
+/// Returns a copy of an area, changed if it is the one of the edit.
 fn area_after(
     alloc: Global,
     area: &Area,
@@ -76,8 +76,8 @@ fn area_after(
     }
 }
 
-/// The areas of a slave with the one of the edit changed, all as they were where there is none. `AllocError`
-/// where a growth was refused.
+/// Returns the areas of a slave with the one of the edit changed; unchanged if there is no such area. `AllocError` if an
+/// allocation fails.
 pub fn areas_after(
     alloc: Global,
     areas: &[Area],

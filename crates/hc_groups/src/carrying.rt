@@ -1,4 +1,4 @@
-//! A change carried out in the declared groups, where they are. Nothing here takes memory.
+//! Changes that are carried out in the declared groups, in place. Nothing here allocates.
 ghost use Rattle.std.specs.Prelude.{◌≡◌};
 ghost use Rattle.hc_records.specs.Lists.{changed_at};
 ghost use Rattle.hc_groups.specs.Changes.{changed_groups, with_areas, with_slave};
@@ -8,7 +8,7 @@ use crate::changes::{AreasChange, PresenceChange};
 use hc_records::items::Items;
 use hc_records::records::{Area, Declared, Slave};
 
-/// Sets the presence of a group, where there is one at its place.
+/// Sets the presence of a group, if there is one at the index.
 pub(crate) fn turn(change: PresenceChange, groups: &mut Items<Declared>)
     ensures { groups.new ≡ changed_groups (Presence change) groups.old }
 {
@@ -18,7 +18,7 @@ pub(crate) fn turn(change: PresenceChange, groups: &mut Items<Declared>)
     }
 }
 
-/// Gives one of the slaves other areas, where there is such a slave.
+/// Replaces the areas of a slave, if there is such a slave.
 fn give_areas(slaves: &mut Items<Slave>, slave: usize, areas: Items<Area>)
     ensures { slaves.new ≡ changed_at slave (with_areas areas) slaves.old }
 {
@@ -27,14 +27,14 @@ fn give_areas(slaves: &mut Items<Slave>, slave: usize, areas: Items<Area>)
     }
 }
 
-/// The same for a slave of a group.
+/// Replaces the areas of a slave of a group, if there is such a slave.
 fn give_areas_in(declared: &mut Declared, slave: usize, areas: Items<Area>)
     ensures { declared.new ≡ with_slave slave areas declared.old }
 {
     give_areas(&mut declared.group.slaves, slave, areas);
 }
 
-/// Gives a slave its areas, where there is one at its place.
+/// Replaces the areas of a slave, if there is one at the index.
 pub(crate) fn reassign(change: AreasChange, groups: &mut Items<Declared>)
     ensures { groups.new ≡ changed_groups (Areas change) groups.old }
 {

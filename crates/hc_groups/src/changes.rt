@@ -1,5 +1,5 @@
-//! What an edit changes, found in the declared groups: the group that comes or goes, or the slave whose
-//! areas change and the areas that it gets.
+//! The change of an edit, found in the declared groups: the group that is connected or disconnected, or the slave whose areas
+//! change and its new areas.
 ghost use Rattle.std.specs.Prelude.{◌≡◌, true, IfOk, Some};
 ghost use Rattle.std.specs.List.{list_any};
 ghost use Rattle.hc_records.specs.Line.{IsCounted};
@@ -12,25 +12,25 @@ use hc_records::items::Items;
 use hc_records::records::{Area, Declared};
 use std::alloc::{AllocError, Global};
 
-/// A declared group that comes or goes.
+/// A declared group that is connected or disconnected.
 #[derive(Clone, Copy, Debug)]
 pub struct PresenceChange {
-    /// The group's place among the declared ones, from 0.
+    /// The group's index among the declared ones, from 0.
     pub group: usize,
     /// Whether the group is in the line afterwards.
     pub present: bool,
-    /// The rank of its first slave, counted from 1 over all declared slaves; those of the others follow.
+    /// The rank of its first slave, counted from 1 over all declared slaves; its other slaves have consecutive ranks.
     pub first: u16,
-    /// How many slaves it has.
+    /// The number of its slaves.
     pub slaves: u16,
 }
 
-/// Where a declared slave is.
+/// The position of a declared slave.
 #[derive(Clone, Copy, Debug)]
 pub struct SlavePlace {
-    /// The place of its group among the declared ones, from 0.
+    /// The index of its group among the declared ones, from 0.
     pub group: usize,
-    /// Its place among the group's slaves, from 0.
+    /// Its index among the group's slaves, from 0.
     pub slave: usize,
     /// Its rank, counted from 1 over all declared slaves.
     pub rank: u16,
@@ -39,14 +39,14 @@ pub struct SlavePlace {
 /// A declared slave whose areas change.
 #[derive(Debug, Drop)]
 pub struct AreasChange {
-    /// Where the slave is.
+    /// The position of the slave.
     pub place: SlavePlace,
-    /// All the areas that it gets, in record order.
+    /// All its new areas, in record order.
     pub areas: Items<Area>,
 }
 
-/// What becomes different where the group with an alias comes or goes, none where no group has it. It
-/// takes no memory.
+/// Returns the change of connecting or disconnecting the group with an alias, or `None` if no group has it. It allocates
+/// nothing.
 pub(crate) fn presence_change(groups: &Indexed, alias: u16, present: bool) -> Option<PresenceChange>
     requires { IsCounted groups.now }
     ensures { result ≡ presence_change groups.now alias present }
@@ -60,7 +60,7 @@ pub(crate) fn presence_change(groups: &Indexed, alias: u16, present: bool) -> Op
     })
 }
 
-/// The areas of the slave at a place, none where there is no such slave.
+/// Returns the areas of the slave at a position, or `None` if there is no such slave.
 fn areas_at<'a>(groups: &'a [Declared], place: &SlavePlace) -> &'a [Area]
     ensures { result.now ≡ areas_at groups.now place.now }
 {
@@ -73,8 +73,7 @@ fn areas_at<'a>(groups: &'a [Declared], place: &SlavePlace) -> &'a [Area]
     slave.areas.as_slice()
 }
 
-/// The areas that the slave at a place gets, in memory of their own. `AllocError` where a growth was
-/// refused.
+/// Returns the new areas of the slave at a position, in memory of their own. `AllocError` if an allocation fails.
 fn areas_changed(
     alloc: Global,
     groups: &[Declared],
@@ -87,8 +86,7 @@ fn areas_changed(
     Ok(AreasChange { place, areas })
 }
 
-/// What becomes different where an area of a declared slave changes. `AllocError` where a growth was
-/// refused.
+/// Returns the change of an area of a declared slave. `AllocError` if an allocation fails.
 pub(crate) fn areas_change(
     alloc: Global,
     groups: &Indexed,

@@ -1,4 +1,4 @@
-//! Whether an edit is refused by itself: by what is declared, what is present, and its own words.
+//! The faults that an edit has by itself: beside the declared groups, their presence, and its own words.
 ghost use Rattle.std.specs.Prelude.{◌≡◌, None, Some, IfErr, IfOk};
 ghost use Rattle.hc_records.specs.Edits.{area_at, area_faults};
 ghost use Rattle.hc_records.specs.Lists.{lowest};
@@ -12,7 +12,8 @@ use hc_records::faults::EditFault;
 use hc_records::limits::{MOST_AREA_BITS, TASKS};
 use hc_records::records::Area;
 
-/// Why a group can't be connected: `AlreadyPresent` if it is present, `UnknownAlias` if no declared group has the alias.
+/// Returns why a group cannot be connected: `AlreadyPresent` if it is present, `UnknownAlias` if no declared group has the
+/// alias.
 fn connect_fault(groups: &Indexed, alias: u16) -> Option<EditFault>
     ensures { result ≡ own_fault groups.now (Connect alias) }
 {
@@ -23,7 +24,7 @@ fn connect_fault(groups: &Indexed, alias: u16) -> Option<EditFault>
     }
 }
 
-/// Why a group can't be disconnected: `Mandatory` for the present group with alias 0, `NotPresent` if it is absent,
+/// Returns why a group cannot be disconnected: `Mandatory` for the present group with alias 0, `NotPresent` if it is absent,
 /// `UnknownAlias` if no declared group has the alias.
 fn disconnect_fault(groups: &Indexed, alias: u16) -> Option<EditFault>
     ensures { result ≡ own_fault groups.now (Disconnect alias) }
@@ -36,7 +37,7 @@ fn disconnect_fault(groups: &Indexed, alias: u16) -> Option<EditFault>
     }
 }
 
-/// An area of the present slave with a station address, or why there is none.
+/// Returns an area of the present slave with a station address, or why there is none.
 fn area_of<'a>(groups: &Indexed<'a>, station: u16, area: u8) -> Result<&'a Area, EditFault>
     ensures found { IfOk result (λ found. area_at (groups_state groups.now) station area ≡ Some found.now) }
     ensures free { IfOk result (λ found. lowest (area_faults (groups_state groups.now) station area) ≡ None) }
@@ -54,7 +55,7 @@ fn area_of<'a>(groups: &Indexed<'a>, station: u16, area: u8) -> Result<&'a Area,
     }
 }
 
-/// Why an area can't have PDOs assigned.
+/// Returns why an area cannot have these PDOs assigned.
 fn assigning_fault(area: &Area, pdos: &[u16]) -> Option<EditFault>
     ensures { result ≡ lowest (assigning_faults area.now pdos.now) }
 {
@@ -70,8 +71,8 @@ fn assigning_fault(area: &Area, pdos: &[u16]) -> Option<EditFault>
     None
 }
 
-/// The lowest fault that a remap with these indexes has by itself, as `own_fault` of that edit; a caller that has them
-/// in a slice needs no list of them for it. It takes no memory.
+/// Returns the lowest fault that a remap with these indexes has by itself, as `own_fault` of that edit. The indexes may stand
+/// in a slice; no list of them is made. It allocates nothing.
 pub fn remap_fault(groups: &Indexed, station: u16, area: u8, pdos: &[u16]) -> Option<EditFault>
     ensures { result ≡ own_fault groups.now (Remap station area pdos.now) }
 {
@@ -81,7 +82,7 @@ pub fn remap_fault(groups: &Indexed, station: u16, area: u8, pdos: &[u16]) -> Op
     }
 }
 
-/// Why an area can't move to a task: `UnknownStation`, `Absent` or `NoSuchArea` if there is no such area, otherwise
+/// Returns why an area cannot move to a task: `UnknownStation`, `Absent` or `NoSuchArea` if there is no such area, otherwise
 /// `NoSuchTask` for a task over 7.
 fn move_fault(groups: &Indexed, station: u16, area: u8, task: u8) -> Option<EditFault>
     ensures { result ≡ own_fault groups.now (Move station area task) }
@@ -93,9 +94,8 @@ fn move_fault(groups: &Indexed, station: u16, area: u8, task: u8) -> Option<Edit
     }
 }
 
-/// The lowest fault that an edit has by itself, none where it has none: of the faults 1 to 11, by
-/// number, the first that holds over the declared groups. An edit that declares a group has none of
-/// these. It takes no memory.
+/// Returns the lowest fault that an edit has by itself, or `None`: the first of the faults 1 to 11 that holds over the declared
+/// groups. An edit that declares a group has none of these. It allocates nothing.
 pub fn own_fault(groups: &Indexed, edit: &Edit) -> Option<EditFault>
     ensures { result ≡ own_fault groups.now edit.now }
 {

@@ -41,14 +41,14 @@ impl<'a> Model for LineSlave<'a> {
 impl<'a> LineSlave<'a> {
     ghost use Rattle.std.specs.Prelude.{◌≡◌};
 
-    /// The slave's place among all declared slaves, present or not, counted from 1.
+    /// Returns the slave's rank: its number among all declared slaves, present or not, from 1.
     pub fn rank(&self) -> u16
         ensures { result ≡ self.now.rank }
     {
         self.rank
     }
 
-    /// The slave's record.
+    /// Returns the slave's record.
     pub fn slave(&self) -> &'a Slave
         ensures { result.now ≡ self.now.slave }
     {
@@ -56,7 +56,7 @@ impl<'a> LineSlave<'a> {
     }
 }
 
-/// What is kept of a project's declared groups to find each by its alias, and their slaves and blocks.
+/// The index of a project's declared groups, by which each is found by its alias, and their slaves and blocks are found.
 #[derive(Debug)]
 pub struct Index {
     // of all declared groups, the lowest alias first
@@ -65,17 +65,17 @@ pub struct Index {
     pub(crate) stations: Vec<u16>,
     // the variables that declared slaves offer, the lowest first
     pub(crate) variables: Vec<u32>,
-    // of each declared slave the number of its group
+    // the number of the group of each declared slave
     pub(crate) owners: Vec<u16>,
-    // of each declared group, how many blocks are before each of its slaves in the group, and how many it has
+    // for each declared group, the number of blocks before each of its slaves in the group, and of all
     pub(crate) fronts: Vec<Vec<u32>>,
-    // how many slaves are declared before each group, and how many there are
+    // the number of slaves declared before each group, and of all
     pub(crate) ranks: Vec<u32>,
-    // how many slaves of the line are before each group, and how many it has
+    // the number of slaves of the line before each group, and of all
     pub(crate) slaves: Vec<u32>,
-    // and how many blocks of the line
+    // the number of blocks of the line before each group, and of all
     pub(crate) blocks: Vec<u32>,
-    // the station addresses of the slaves of the line by their positions, and after them places for those of the others
+    // the station addresses of the slaves of the line by their positions, and after them places for the other declared slaves
     pub(crate) line: Vec<u16>,
 }
 
@@ -108,7 +108,7 @@ impl Model for Index {
 }
 
 impl Index {
-    /// The index of a project's declared groups. `AllocError` where a growth was refused.
+    /// Returns the index of a project's declared groups. `AllocError` if an allocation fails.
     pub fn new(alloc: Global, groups: &[Declared]) -> Result<Index, AllocError>
         requires { lowest_fault (groups_of groups.now) ≡ None }
         ensures { IfOk result (IsIndexOf groups.now) }
@@ -136,7 +136,7 @@ impl Index {
         })
     }
 
-    /// A group comes or goes: the sums of the groups after it change, and no other group is looked at.
+    /// Sets whether a group is present: the sums of the groups after it change, and no other group is read.
     fn turn(&mut self, groups: &[Declared], change: &PresenceChange)
         requires index { IsIndexOf groups.now self.old }
         requires inside { change.now.group < length groups.now }
@@ -148,7 +148,7 @@ impl Index {
         recount(self.blocks.as_mut_slice(), change.group, blocks);
     }
 
-    /// Where the slaves of a group are in the line.
+    /// Returns the positions of a group's slaves in the line.
     fn stretch(&self, groups: &[Declared], group: usize) -> Stretch
         requires index { IsIndexOf groups.now self.now }
         requires inside { group < length groups.now }
@@ -162,7 +162,7 @@ impl Index {
         }
     }
 
-    /// A group comes or goes whose slaves are there in the line: so do their station addresses.
+    /// Sets whether a group with slaves is present, with the station addresses of its slaves.
     fn restation(&mut self, groups: &[Declared], change: &PresenceChange, stretch: Stretch)
         requires line { BeginsWithLine groups.now self.old.line }
         requires stretch { IsStretchOf groups.now change.now.group stretch }
@@ -174,9 +174,9 @@ impl Index {
         replace(self.line.as_mut_slice(), stretch, slaves);
     }
 
-    /// A change that an edit makes of the groups that it is the index of: it becomes the index of the groups that the
-    /// change leaves. Where a group comes or goes, the sums of the groups after it change, and the station addresses
-    /// after its own move up or down; where a slave gets other areas they stay, since it gets as many. It takes no memory.
+    /// Carries out the change of an edit: the index becomes that of the groups after the change. If a group is connected or
+    /// disconnected, the sums of the groups after it change, and the station addresses after its own move up or down. If a
+    /// slave gets other areas, nothing changes, since it gets as many. It allocates nothing.
     pub fn follow(&mut self, groups: &[Declared], change: &Prepared)
         requires index { IsIndexOf groups.now self.old }
         requires made { IsMade groups.now change.now }
@@ -193,7 +193,7 @@ impl Index {
         }
     }
 
-    /// The groups that it is the index of, for look-ups.
+    /// Returns the groups with their index, for look-ups.
     pub fn of<'a>(&'a self, groups: &'a [Declared]) -> Indexed<'a>
         requires { IsIndexOf groups.now self.now }
         ensures { result ≡ groups.now }
@@ -250,14 +250,14 @@ impl<'a> Indexed<'a> {
     ghost use Rattle.hc_groups.specs.Changes.{first_rank, slave_place};
     ghost use Rattle.hc_groups.specs.Index.{IsDeclaredAt, IsMember, declared_count, own_blocks, owned_by, rank_in, slave_in};
 
-    /// The declared groups, present or not.
+    /// Returns the declared groups, present or not.
     pub fn groups(&self) -> &'a [Declared]
         ensures { result.now ≡ self.now }
     {
         self.groups
     }
 
-    /// How many slaves the line has.
+    /// Returns the number of slaves in the line.
     pub fn slaves(&self) -> usize
         ensures value { result ≡ length (line_from 1 self.now) }
         ensures few { result < 65535 }
@@ -265,15 +265,15 @@ impl<'a> Indexed<'a> {
         self.slaves[self.groups.len()] as usize
     }
 
-    /// How many register blocks the slaves of the line have.
+    /// Returns the number of register blocks of the slaves in the line.
     pub fn blocks(&self) -> u32
         ensures { result ≡ sum_by own_blocks (line_from 1 self.now) }
     {
         self.blocks[self.groups.len()]
     }
 
-    /// The number among the declared groups, from 0, of the one with an alias, present or not; none where
-    /// none has it.
+    /// Returns the number among the declared groups, from 0, of the group with an alias, present or not, or `None` if none has
+    /// it.
     pub fn group(&self, alias: u16) -> Option<usize>
         ensures value { result ≡ position (λ declared. declared.group.alias == alias) self.now }
         ensures low { IfSome result (λ group. group < 65536) }
@@ -282,7 +282,7 @@ impl<'a> Indexed<'a> {
         Some(usize::from(group))
     }
 
-    /// Whether the group with an alias, which has this number, from 0, is in the line.
+    /// Returns whether the group with an alias, which has this number, from 0, is in the line.
     fn is_present(&self, alias: u16, group: usize) -> bool
         requires named { position (λ declared. declared.group.alias == alias) self.now ≡ Some group }
         requires low { group < 65536 }
@@ -291,7 +291,7 @@ impl<'a> Indexed<'a> {
         self.groups[group].present
     }
 
-    /// Whether the group with an alias is in the line; none where no declared group has it.
+    /// Returns whether the group with an alias is in the line, or `None` if no declared group has it.
     pub(crate) fn presence(&self, alias: u16) -> Option<bool>
         ensures declared { is_some result ≡ list_any (λ declared. declared.group.alias == alias) self.now }
         ensures present { unwrap_or result false ≡ list_any (λ declared. (declared.group.alias == alias) && declared.present) self.now }
@@ -300,8 +300,8 @@ impl<'a> Indexed<'a> {
         Some(self.is_present(alias, group))
     }
 
-    /// The rank of the first slave of the group with a number, counted from 1 over all declared slaves; those of its
-    /// others follow.
+    /// Returns the rank of the first slave of the group with a number, counted from 1 over all declared slaves; its other
+    /// slaves have consecutive ranks.
     pub(crate) fn first_rank(&self, group: usize) -> u16
         requires { group < length self.now }
         ensures { result ≡ first_rank self.now group }
@@ -309,29 +309,29 @@ impl<'a> Indexed<'a> {
         number_at(self.ranks, group, 0) + 1
     }
 
-    /// Whether a slave with a station address is declared, present or not.
+    /// Returns whether a slave with a station address is declared, present or not.
     pub fn is_declared_station(&self, station: u16) -> bool
         ensures { result ≡ list_any (λ declared. has_station station declared.group.slaves) self.now }
     {
         find_rank(self.stations, station).is_some()
     }
 
-    /// How many slaves are declared, present or not.
+    /// Returns the number of declared slaves, present or not.
     pub fn declared(&self) -> usize
         ensures { result ≡ length (slaves_of (groups_of self.now)) }
     {
         self.owners.len()
     }
 
-    /// Whether an area of a declared slave, present or not, offers a variable, assigned or not.
+    /// Returns whether an area of a declared slave, present or not, offers a variable, assigned or not.
     pub fn is_declared_variable(&self, variable: VarId) -> bool
         ensures { result ≡ is_declared_variable self.now variable }
     {
         is_one_of(self.variables, variable.number())
     }
 
-    /// The number of the group, from 0, of the declared slave with a rank, present or not, and the slave's place in it;
-    /// none where fewer slaves are declared.
+    /// Returns the number of the group, from 0, of the declared slave with a rank, present or not, and the slave's index in it.
+    /// `None` if fewer slaves are declared.
     fn find_declared(&self, rank: u16) -> Option<SumPlace>
         requires { 1 ≤ rank }
         ensures sum_place { MatchOption result (sum_by declared_count self.now < rank) (λ sum_place. IsDeclaredAt self.now rank sum_place.index sum_place.offset) }
@@ -342,7 +342,8 @@ impl<'a> Indexed<'a> {
         Some(SumPlace { index, offset })
     }
 
-    /// The same of a slave of the line.
+    /// Returns the number of the group, from 0, of the slave of the line with a rank, and the slave's index in it. `None` if no
+    /// slave of the line has the rank.
     fn find_present(&self, rank: u16) -> Option<SumPlace>
         requires { 1 ≤ rank }
         ensures { MatchOption result (All (λ member. member.rank ≢ rank) (line_from 1 self.now)) (λ sum_place. IsMember self.now rank sum_place.index sum_place.offset) }
@@ -355,7 +356,8 @@ impl<'a> Indexed<'a> {
         }
     }
 
-    /// Where the slave with a station address is declared, present or not; none where none is.
+    /// Returns the position of the declared slave with a station address, present or not, or `None` if no declared slave has
+    /// it.
     pub(crate) fn slave_place(&self, station: u16) -> Option<SlavePlace>
         ensures { result ≡ slave_place self.now station }
     {
@@ -368,8 +370,8 @@ impl<'a> Indexed<'a> {
         })
     }
 
-    /// A group from which a walk over the declared slaves meets each one with this rank or a higher one: the group's
-    /// number, from 0, and the rank of its first slave, which is no higher unless it is 1. It takes no memory.
+    /// Returns a group from which a walk over the declared slaves meets each one with this rank or a higher one: the group's
+    /// number, from 0, and the rank of its first slave, which is no higher unless it is 1. It allocates nothing.
     pub fn group_before(&self, rank: u16) -> (usize, u16)
         ensures inside { result.0 ≤ length self.now }
         ensures first { result.1 ≡ sum_by declared_count (take result.0 self.now) + 1 }
@@ -384,15 +386,14 @@ impl<'a> Indexed<'a> {
         }
     }
 
-    /// One more than the rank of the last declared slave.
+    /// Returns the rank after that of the last declared slave.
     fn first_rank_after(&self) -> u16
         ensures { result ≡ sum_by declared_count self.now + 1 }
     {
         self.owners.len() as u16 + 1
     }
 
-    /// The position in the line, from 0, of the slave with a station address; none where it isn't
-    /// present.
+    /// Returns the position in the line, from 0, of the slave with a station address, or `None` if it is not present.
     pub fn position(&self, station: u16) -> Option<usize>
         ensures value { result ≡ position (is_at station) (line_from 1 self.now) }
         ensures low { IfSome result (λ index. index < 65535) }
@@ -403,7 +404,7 @@ impl<'a> Indexed<'a> {
         Some(usize::from(position))
     }
 
-    /// The slave at a place in a group with a number, both from 0; none where there is none.
+    /// Returns the slave at an index in the group with a number, both from 0, or `None` if there is none.
     fn slave_in(&self, group: usize, place: u32) -> Option<LineSlave<'a>>
         ensures { result ≡ option_map (λ slave. record { rank = rank_in self.now group place; slave = slave }) (slave_in self.now group place) }
     {
@@ -416,7 +417,7 @@ impl<'a> Indexed<'a> {
         })
     }
 
-    /// The station address of the slave at a position of the line, from 0; none where the line is shorter.
+    /// Returns the station address of the slave at a position of the line, from 0, or `None` if the line is shorter.
     pub fn station(&self, position: usize) -> Option<u16>
         ensures { result ≡ option_map (λ member. member.slave.station) (slice_get (line_from 1 self.now) position) }
     {
@@ -426,7 +427,7 @@ impl<'a> Indexed<'a> {
         Some(self.line[position])
     }
 
-    /// The slave of the line with a station address; none where it isn't present.
+    /// Returns the slave of the line with a station address, or `None` if it is not present.
     pub fn slave_at(&self, station: u16) -> Option<LineSlave<'a>>
         ensures { result ≡ find (is_at station) (line_from 1 self.now) }
     {
@@ -435,7 +436,7 @@ impl<'a> Indexed<'a> {
         self.slave_in(sum_place.index, sum_place.offset)
     }
 
-    /// The slave of the line with a rank, counted from 1 over all declared slaves; none where it isn't present.
+    /// Returns the slave of the line with a rank, counted from 1 over all declared slaves, or `None` if it is not present.
     pub fn slave_of_rank(&self, rank: u16) -> Option<LineSlave<'a>>
         ensures { result ≡ find (λ member. member.rank == rank) (line_from 1 self.now) }
     {
@@ -446,8 +447,8 @@ impl<'a> Indexed<'a> {
         self.slave_in(sum_place.index, sum_place.offset)
     }
 
-    /// The slave that has the register block with a number, from 0, in line and block order, with the
-    /// block's number in the slave's own order; none where the line has fewer.
+    /// Returns the slave that has the register block with a number, from 0, in line and block order, and the block's number in
+    /// the slave's own order. `None` if the line has fewer blocks.
     pub fn block_owner(&self, n: u32) -> Option<(LineSlave<'a>, u8)>
         ensures { result ≡ owned_by (line_from 1 self.now) n }
     {

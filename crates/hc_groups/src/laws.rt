@@ -1,9 +1,7 @@
-//! What follows from the definitions, so that a reader can trust them: each function here does nothing, and
-//! its contract is a law. Nobody calls it.
+//! Laws that follow from the definitions. Each function does nothing, and its contract is a law. Nobody calls it.
 ghost use Rattle.hc_groups.specs.Laws.{AcceptedEditsKeepProjects};
 
-/// An accepted edit leaves the declared groups of a project again those of a project: no fault's condition
-/// holds of them.
+/// An accepted edit leaves the declared groups of a project as groups of a project: no fault's condition holds for them.
 pub fn accepted_edits_keep_projects()
     ensures { AcceptedEditsKeepProjects }
 {}

@@ -1,6 +1,6 @@
-//! The declared groups. An index finds a group by its alias, a slave by its station address or its position, a
-//! block by its number and a variable, without a walk. An edit is judged by itself and carried out in the groups;
-//! the plan adds what concerns the whole line: datagrams and epochs.
+//! The declared groups. An index finds a group by its alias, a slave by its station address or its position, a block by its
+//! number, and a variable, without a walk. An edit is judged by itself and carried out in the groups; the plan adds the faults
+//! of the whole line: datagrams and epochs.
 #![tactic(auto)]
 
 mod addresses;
@@ -18,3 +18,6 @@ pub mod prepared;
 pub mod room;
 mod sums;
 mod variables;
+
+pub use index::Index;
+pub use prepared::Prepared;

@@ -1,5 +1,5 @@
-//! The station addresses of the slaves of the line, in line order. They are at the front of a list that has a place for each
-//! declared slave, so that a group can come and go without memory.
+//! The station addresses of the slaves of the line, in line order. They stand at the front of a list with a place for each
+//! declared slave, so that a group can be connected and disconnected without an allocation.
 ghost use Rattle.std.specs.Prelude.{◌≡◌, ◌+◌, ◌≤◌, ◌++◌, [], if◌then◌else◌, IfOk, OnOk, drop, length, sum_by, take};
 ghost use Rattle.hc_groups.specs.Index.{BeginsWithLine, declared_count, line_stations, stations};
 ghost use Rattle.hc_groups.specs.inner.Line.{IsReplaced};
@@ -7,7 +7,7 @@ ghost use Rattle.hc_groups.specs.inner.Line.{IsReplaced};
 use hc_records::records::{Declared, Slave};
 use std::alloc::{AllocError, Global};
 
-/// Adds the station addresses of slaves.
+/// Appends the station addresses of slaves.
 fn add_stations(all: &mut Vec<u16>, slaves: &[Slave]) -> Result<(), AllocError>
     ensures { OnOk result (all.new.items ≡ all.old.items ++ stations slaves.now) }
 {
@@ -17,7 +17,7 @@ fn add_stations(all: &mut Vec<u16>, slaves: &[Slave]) -> Result<(), AllocError>
     Ok(())
 }
 
-/// The slaves that a declared group has in the line, where it is present or isn't.
+/// Returns the slaves of a declared group in the line: all if it is present, else none.
 pub(crate) fn slaves_if(declared: &Declared, present: bool) -> &[Slave]
     ensures { result.now ≡ (if present then declared.now.group.slaves else []) }
 {
@@ -28,7 +28,7 @@ pub(crate) fn slaves_if(declared: &Declared, present: bool) -> &[Slave]
     }
 }
 
-/// The station addresses of the slaves of the line.
+/// Returns the station addresses of the slaves of the line.
 fn stations_of(alloc: Global, groups: &[Declared]) -> Result<Vec<u16>, AllocError>
     ensures { IfOk result (λ all. all.items ≡ line_stations groups.now) }
 {
@@ -39,7 +39,8 @@ fn stations_of(alloc: Global, groups: &[Declared]) -> Result<Vec<u16>, AllocErro
     Ok(all)
 }
 
-/// The same at the front of a list with as many places as slaves are declared. `AllocError` where a growth was refused.
+/// Returns the station addresses of the slaves of the line at the front of a list with as many places as slaves are declared.
+/// `AllocError` if an allocation fails.
 pub(crate) fn line_list(
     alloc: Global,
     groups: &[Declared],
@@ -63,7 +64,7 @@ fn write_stations(list: &mut [u16], position: usize, slaves: &[Slave])
     }
 }
 
-/// Some slaves of the line, by their positions: the first one, how many they are, and how many slaves the line has.
+/// A stretch of the line, by positions: the first slave, the number of its slaves, and the number of slaves of the line.
 #[derive(Clone, Copy)]
 pub(crate) struct Stretch {
     pub(crate) position: usize,
@@ -71,7 +72,7 @@ pub(crate) struct Stretch {
     pub(crate) line: usize,
 }
 
-/// Other slaves come in the place of some in the line: the station addresses after these make room for theirs.
+/// Replaces the slaves of a stretch by others: the station addresses after it move up or down.
 pub(crate) fn replace(list: &mut [u16], stretch: Stretch, slaves: &[Slave])
     requires inside { stretch.position + stretch.own ≤ stretch.line }
     requires most { stretch.line ≤ length list.old }

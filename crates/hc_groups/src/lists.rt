@@ -1,9 +1,9 @@
-//! Lists that grow into memory that was taken before.
+//! Lists that grow in memory that was reserved.
 ghost use Rattle.std.specs.Prelude.{◌≡◌, ◌+◌, ◌-◌, ◌<◌, ◌≤◌, ◌++◌, ◌∷◌, [], length, replicate, slice_index};
 
 use hc_records::room::Room;
 
-/// Puts a number after others, so many times, with the help of memory that was taken before.
+/// Appends a number several times, in memory that was reserved.
 pub(crate) fn fill(list: &mut Vec<u16>, room: Room<u16>, more: usize, number: u16)
     requires { length list.old.items + more ≤ room }
     ensures { list.new.items ≡ list.old.items ++ replicate more number }
@@ -13,7 +13,7 @@ pub(crate) fn fill(list: &mut Vec<u16>, room: Room<u16>, more: usize, number: u1
     let _filled = list.resize(count, number);
 }
 
-/// Puts numbers after others, with the help of memory that was taken before.
+/// Appends numbers, in memory that was reserved.
 pub(crate) fn append(list: &mut Vec<u32>, room: Room<u32>, more: &[u32])
     requires { length list.old.items + length more.now ≤ room }
     ensures { list.new.items ≡ list.old.items ++ more.now }
@@ -22,7 +22,7 @@ pub(crate) fn append(list: &mut Vec<u32>, room: Room<u32>, more: &[u32])
     let _longer = list.extend_from_slice(more);
 }
 
-/// Puts a list after others, with the help of memory that was taken before.
+/// Appends a list, in memory that was reserved.
 pub(crate) fn add_list(lists: &mut Vec<Vec<u32>>, room: Room<Vec<u32>>, list: Vec<u32>)
     requires { length lists.old.items + 1 ≤ room }
     ensures { lists.new.items ≡ lists.old.items ++ list ∷ [] }
@@ -31,7 +31,7 @@ pub(crate) fn add_list(lists: &mut Vec<Vec<u32>>, room: Room<Vec<u32>>, list: Ve
     lists.push_reserved(list);
 }
 
-/// Adds the sum after an element that counts for so many to sums, with the help of memory that was taken before.
+/// Appends the sum after an element with a weight to sums, in memory that was reserved.
 pub(crate) fn add_sum(sums: &mut Vec<u32>, room: Room<u32>, count: u32)
     requires some { 0 < length sums.old.items }
     requires low { slice_index sums.old.items (length sums.old.items - 1) + count < 4294967296 }

@@ -7,7 +7,7 @@ ghost use Rattle.hc_groups.specs.Index.{owners_from};
 use hc_records::records::{Declared, Slave};
 use std::alloc::{AllocError, Global};
 
-/// Adds the number of a group, once for each of its slaves.
+/// Appends the number of a group, once for each of its slaves.
 fn add_owners(all: &mut Vec<u16>, group: u16, slaves: &[Slave]) -> Result<(), AllocError>
     ensures { OnOk result (all.new.items ≡ all.old.items ++ map (λ (_ : Slave). group) slaves.now) }
 {
@@ -17,7 +17,7 @@ fn add_owners(all: &mut Vec<u16>, group: u16, slaves: &[Slave]) -> Result<(), Al
     Ok(())
 }
 
-/// The number of the group of each declared slave, in declared order. `AllocError` where a growth was refused.
+/// Returns the number of the group of each declared slave, in declared order. `AllocError` if an allocation fails.
 pub(crate) fn owners(alloc: Global, groups: &[Declared]) -> Result<Vec<u16>, AllocError>
     requires { length groups.now < 65536 }
     ensures { IfOk result (λ all. all.items ≡ owners_from 0 groups.now) }

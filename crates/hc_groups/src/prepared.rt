@@ -1,4 +1,4 @@
-//! An edit as it is known before anything changes, and its carrying out where the groups are.
+//! A prepared edit of the declared groups, which can be carried out in them.
 ghost use Rattle.std.specs.Prelude.{◌≡◌, false, true, IfOk, None, Some, option_map};
 ghost use Rattle.std.specs.List.{list_any};
 ghost use Rattle.hc_records.specs.Edits.{declares};
@@ -18,16 +18,16 @@ use hc_records::items::Items;
 use hc_records::records::Declared;
 use std::alloc::{AllocError, Global};
 
-/// What an edit changes of the declared groups.
+/// The change that an edit makes of the declared groups.
 #[derive(Debug, Drop)]
 pub enum Prepared {
-    /// A group comes or goes.
+    /// A group is connected or disconnected.
     Presence(PresenceChange),
     /// A slave gets these areas.
     Areas(AreasChange),
 }
 
-/// A declared group comes or goes.
+/// Returns the change of connecting or disconnecting a declared group.
 fn presence_by(groups: &Indexed, alias: u16, present: bool) -> Prepared
     requires counted { IsCounted groups.now }
     requires known { list_any (has_alias alias) groups.now ≡ true }
@@ -39,7 +39,7 @@ fn presence_by(groups: &Indexed, alias: u16, present: bool) -> Prepared
     Prepared::Presence(change)
 }
 
-/// What an edit without a fault of its own changes, one that declares no group. `AllocError` where a growth was refused.
+/// Returns the change of an edit that has no fault of its own and declares no group. `AllocError` if an allocation fails.
 fn change_by(alloc: Global, groups: &Indexed, edit: &Edit) -> Result<Prepared, AllocError>
     requires counted { IsCounted groups.now }
     requires changes { declares edit.now ≡ false }
@@ -87,12 +87,13 @@ impl Prepared {
     ghost use Rattle.hc_groups.specs.Changes.{change_by, changed_groups};
     ghost use Rattle.hc_groups.specs.Rows.{ChangesRow};
 
-    /// What an edit that declares no group changes of the groups of a project: carried out, it leaves the groups that the edit
-    /// leaves, again a project's. The slaves that it concerns have ranks that follow one another, and each
-    /// other slave keeps its record, and whether it is present. The areas that a slave gets are taken into
-    /// memory here. Otherwise the lowest fault that the edit has by itself, judged before the first growth,
-    /// or `Memory` where a growth was refused. Either way the groups given stay as they are. No group and no slave is
-    /// gone over: the index finds them.
+    /// Prepares an edit that declares no group, for the groups of a project. Carried out, the change leaves the groups that the
+    /// edit leaves, again a project's. The slaves that it concerns have consecutive ranks; each other slave keeps its record,
+    /// and stays present or absent. The new areas of a slave are copied here. The index finds groups and slaves; none is
+    /// searched. The groups are unchanged in any case. Fails with one of these:
+    ///
+    /// - The lowest fault that the edit has by itself, which is judged before the first allocation.
+    /// - `Memory`: an allocation failed.
     pub fn of(alloc: Global, groups: &Indexed, edit: &Edit) -> Result<Prepared, EditFault>
         requires project { lowest_fault (groups_of groups.now) ≡ None }
         requires changes { declares edit.now ≡ false }
@@ -111,8 +112,8 @@ impl Prepared {
         Ok(change)
     }
 
-    /// Carries the change out in the groups that it was made of, where they are. It takes no memory, and nothing can
-    /// refuse it. In other groups it changes the one at its place, if there is one.
+    /// Carries the change out in the groups for which it was prepared, in place. It allocates nothing and cannot fail. In other
+    /// groups it changes the group or slave at its index, if there is one.
     pub fn carry_out(self, groups: &mut Items<Declared>)
         ensures { groups.new ≡ changed_groups self groups.old }
     {

@@ -1,4 +1,4 @@
-//! A declared group's way into an index: the memory that it needs is taken first, then nothing can be refused.
+//! The addition of a declared group to an index: all memory is reserved first, so that nothing can fail afterwards.
 ghost use Rattle.std.specs.Prelude.{◌≡◌, ◌+◌, ◌<◌, All, IfOk, length, map};
 ghost use Rattle.std.specs.List.Sorted.{IsNonDecreasing, IsPermutation};
 ghost use Rattle.hc_records.specs.Line.{members_from};
@@ -26,7 +26,7 @@ struct GroupRoom {
     blocks: Room<u32>,
 }
 
-/// Memory for those that grow with a group's slaves, their station addresses and the variables that they offer.
+/// Memory for the lists that grow with a group's slaves, their station addresses and the variables that they offer.
 #[derive(Drop)]
 struct SlaveRoom {
     stations: Room<u16>,
@@ -35,20 +35,20 @@ struct SlaveRoom {
     line: Room<u16>,
 }
 
-/// What an index takes of a group.
+/// The facts of a group that an index stores.
 #[derive(Drop)]
 struct Entry {
-    // of the group's slaves the station addresses with their ranks
+    // the station addresses of the group's slaves with their ranks
     addresses: Vec<Address>,
-    // above all of these
+    // a number above all of these addresses
     reach: usize,
     // the variables that they offer, the lowest first
     names: Vec<u32>,
-    // how many blocks are before each of them in the group, and how many it has
+    // the number of blocks before each of them in the group, and of all
     sums: Vec<u32>,
 }
 
-/// The memory that an index needs to take in a declared group, and what it takes of the group.
+/// The memory that an index needs to add a declared group, and the facts of the group that it stores.
 #[derive(Drop)]
 pub struct IndexRoom {
     by_group: GroupRoom,
@@ -64,7 +64,7 @@ impl Model for IndexRoom {
     ghost view = { λ room. record { aliases = room.by_group.aliases; stations = room.by_slave.stations; variables = room.by_slave.variables; owners = room.by_slave.owners; line = room.by_slave.line; fronts = room.by_group.fronts; ranks = room.by_group.ranks; slaves = room.by_group.slaves; blocks = room.by_group.blocks; addresses = room.entry.addresses.items; reach = room.entry.reach; names = room.entry.names.items; sums = room.entry.sums.items } };
 }
 
-/// The station addresses of slaves from this rank on.
+/// Returns the station addresses of slaves from this rank on.
 fn own_addresses(alloc: Global, rank: u16, slaves: &[Slave]) -> Result<Vec<Address>, AllocError>
     requires { rank + length slaves.now < 65536 }
     ensures { IfOk result (λ all. all.items ≡ map address_of (members_from rank slaves.now)) }
@@ -74,7 +74,7 @@ fn own_addresses(alloc: Global, rank: u16, slaves: &[Slave]) -> Result<Vec<Addre
     Ok(all)
 }
 
-/// What an index takes of a group whose first slave has this rank. `AllocError` where a growth was refused.
+/// Returns the facts of a group whose first slave has this rank. `AllocError` if an allocation fails.
 fn entry_of(alloc: Global, rank: u16, slaves: &[Slave]) -> Result<Entry, AllocError>
     requires counted { rank + length slaves.now < 65536 }
     requires few { block_sum slaves.now < 4294967296 }
@@ -103,7 +103,7 @@ impl Index {
     ghost use Rattle.hc_groups.specs.Index.{IsIndexOf};
     ghost use Rattle.hc_groups.specs.Room.{IndexCanAdmit, CanEnter, IsIndexRoomFor, IsGroupRoom, IsSlaveRoom};
 
-    /// Memory for one element more in each list that grows by one with each group.
+    /// Reserves memory for one more element in each list that grows by one with each group.
     fn group_room(&self, alloc: Global) -> Result<GroupRoom, AllocError>
         ensures { IfOk result (IsGroupRoom self.now) }
     {
@@ -116,7 +116,7 @@ impl Index {
         })
     }
 
-    /// Memory for so many slaves more, with what an index takes of them.
+    /// Reserves memory for `count` more slaves with their facts.
     fn slave_room(
         &self,
         alloc: Global,
@@ -134,8 +134,8 @@ impl Index {
         })
     }
 
-    /// The memory that it needs to take in a group that is declared after the others. `AllocError` where a growth
-    /// was refused. It looks at the group alone.
+    /// Reserves the memory to add a group that is declared after the others. `AllocError` if an allocation fails. It reads only
+    /// the new group.
     pub fn room_for(&self, alloc: Global, group: &Group) -> Result<IndexRoom, AllocError>
         requires { CanEnter self.now group.now }
         ensures { IfOk result (λ room. (groups : List Declared) → IsIndexOf groups self.now → IsIndexRoomFor groups group.now room) }
@@ -151,9 +151,9 @@ impl Index {
         })
     }
 
-    /// A group is declared after the others, absent: it becomes the index of the groups with this one, in memory
-    /// that was taken before, and nothing can be refused. It looks at what the group brings; of the others, the
-    /// aliases and the variables that are higher than its own are shifted once.
+    /// Adds a group, declared after the others and absent, in memory that was reserved: the index becomes that of the groups
+    /// with this one. It cannot fail. It reads the new group; of the others, aliases and variables that are higher than its own
+    /// are shifted once.
     pub fn admit(&mut self, group: &Group, room: IndexRoom)
         requires { IndexCanAdmit self.old group.now room }
         ensures { (can : IndexCanAdmit self.old group.now room) → IsIndexOf (can.groups ++ absent group.now ∷ []) self.new }

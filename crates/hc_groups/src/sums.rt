@@ -1,4 +1,4 @@
-//! Sums along lists, where the element that a number falls in is found by halves.
+//! Prefix sums of lists, in which the element that a number falls into is found by bisection.
 ghost use Rattle.std.specs.Prelude.{◌≡◌, ◌+◌, ◌-◌, ◌<◌, ◌≤◌, if◌then◌else◌, All, IfOk, IfSome, [], MatchOption, length, map, slice_index, sum_by, vec_capacity, vec_len};
 ghost use Rattle.std.specs.List.Sorted.{IsNonDecreasing, IsPartitionPoint};
 ghost use Rattle.hc_records.specs.Line.{IsCounted};
@@ -8,23 +8,23 @@ ghost use Rattle.hc_groups.specs.inner.Turned.{recounted};
 use hc_records::records::{Declared, Slave};
 use std::alloc::{AllocError, Global};
 
-/// Where a number falls among sums.
+/// The element into which a number falls.
 #[derive(Drop)]
 pub(crate) struct SumPlace {
-    /// The number of the element that it falls in, from 0.
+    /// The number of the element, from 0.
     pub index: usize,
-    /// How far after the element's front it is.
+    /// The offset from the element's front.
     pub offset: u32,
 }
 
-/// So many, if a condition holds, and else 0. It takes no branch.
+/// Returns a number if a condition holds, and else 0, without a branch.
 fn count_if(holds: bool, count: usize) -> usize
     ensures { result ≡ (if holds then count else 0) }
 {
     count * usize::from(holds)
 }
 
-/// How many sums are no greater. Half of those that are left goes in each step, without a branch on what was read.
+/// Returns how many sums are no greater than a number. Each step halves the rest, without a branch on what was read.
 fn count_begun(sums: &[u32], n: u32) -> usize
     requires { IsNonDecreasing sums.now }
     ensures bound { result ≤ length sums.now }
@@ -40,7 +40,7 @@ fn count_begun(sums: &[u32], n: u32) -> usize
     begun
 }
 
-/// Where a number falls among sums; none where it is no lower than the last.
+/// Returns the element into which a number falls, or `None` if it is not below the last sum.
 pub(crate) fn find_sum_place(sums: &[u32], n: u32) -> Option<SumPlace>
     requires { AreRisingSums sums.now }
     ensures { MatchOption result (All (λ sum. sum ≤ n) sums.now) (λ sum_place. IsSumPlace sums.now n sum_place.index sum_place.offset) }
@@ -54,8 +54,8 @@ pub(crate) fn find_sum_place(sums: &[u32], n: u32) -> Option<SumPlace>
     Some(SumPlace { index, offset })
 }
 
-/// Where a number falls among sums, if it falls where it would if all elements counted for as many; else none. Most slaves of a
-/// line have as many blocks as the others, so most numbers of blocks do.
+/// Returns the element into which a number falls, if it is the one that it would be if all elements had one weight; else
+/// `None`. Most slaves of a line have as many blocks as the others, so most numbers of blocks do.
 fn find_by_share(sums: &[u32], n: u32) -> Option<SumPlace>
     ensures { IfSome result (λ sum_place. IsSumPlace sums.now n sum_place.index sum_place.offset) }
 {
@@ -74,7 +74,8 @@ fn find_by_share(sums: &[u32], n: u32) -> Option<SumPlace>
     })
 }
 
-/// Where a number falls among sums of elements that mostly count for as many; none where it is no lower than the last.
+/// Returns the element into which a number falls, among elements that mostly have one weight, or `None` if it is not below the
+/// last sum.
 pub(crate) fn find_near_share(sums: &[u32], n: u32) -> Option<SumPlace>
     requires { AreRisingSums sums.now }
     ensures { MatchOption result (All (λ sum. sum ≤ n) sums.now) (λ sum_place. IsSumPlace sums.now n sum_place.index sum_place.offset) }
@@ -85,7 +86,7 @@ pub(crate) fn find_near_share(sums: &[u32], n: u32) -> Option<SumPlace>
     }
 }
 
-/// The number that is so far after the front of the element with an index, by sums.
+/// Returns the number at an offset from the front of the element with an index.
 pub(crate) fn number_at(sums: &[u32], index: usize, offset: u32) -> u16
     requires inside { index < length sums.now }
     requires low { slice_index sums.now index + offset < 65535 }
@@ -95,7 +96,7 @@ pub(crate) fn number_at(sums: &[u32], index: usize, offset: u32) -> u16
     (sums[index] + offset) as u16
 }
 
-/// The sums of the blocks of slaves.
+/// Returns the sums of the blocks of slaves.
 pub(crate) fn slave_sums(alloc: Global, slaves: &[Slave]) -> Result<Vec<u32>, AllocError>
     requires { block_sum slaves.now < 4294967296 }
     ensures { IfOk result (λ sums. sums.items ≡ sums_from slave_block_count 0 slaves.now) }
@@ -110,7 +111,7 @@ pub(crate) fn slave_sums(alloc: Global, slaves: &[Slave]) -> Result<Vec<u32>, Al
     Ok(sums)
 }
 
-/// The sums of the blocks of each declared group's slaves.
+/// Returns the sums of the blocks of each declared group's slaves.
 pub(crate) fn group_fronts(alloc: Global, groups: &[Declared]) -> Result<Vec<Vec<u32>>, AllocError>
     requires { All (λ declared. block_sum declared.group.slaves < 4294967296) groups.now }
     ensures { IfOk result (λ fronts. map (λ sums. sums.items) fronts.items ≡ map block_sums groups.now) }
@@ -122,7 +123,7 @@ pub(crate) fn group_fronts(alloc: Global, groups: &[Declared]) -> Result<Vec<Vec
     Ok(fronts)
 }
 
-/// The sums of the slaves that groups declare.
+/// Returns the sums of the slaves that groups declare.
 pub(crate) fn declared_sums(alloc: Global, groups: &[Declared]) -> Result<Vec<u32>, AllocError>
     requires { IsCounted groups.now }
     ensures { IfOk result (λ ranks. ranks.items ≡ sums_from declared_count 0 groups.now) }
@@ -137,8 +138,8 @@ pub(crate) fn declared_sums(alloc: Global, groups: &[Declared]) -> Result<Vec<u3
     Ok(ranks)
 }
 
-/// How many slaves and how many blocks a declared group has in the line, where it is present or isn't, by the sums of
-/// its slaves' blocks.
+/// Returns how many slaves and how many blocks a declared group has in the line, which depends on its presence, from the sums
+/// of its slaves' blocks.
 pub(crate) fn line_counts(declared: &Declared, present: bool, sums: &[u32]) -> (u32, u32)
     requires sums { sums.now ≡ block_sums declared.now }
     requires few { declared_count declared.now < 65535 }
@@ -152,7 +153,7 @@ pub(crate) fn line_counts(declared: &Declared, present: bool, sums: &[u32]) -> (
     (count as u32, sums[count])
 }
 
-/// Adds the sums of the groups' slaves in the line and of their blocks, for which there is room, to none.
+/// Appends the sums of the groups' slaves in the line and of their blocks to empty lists, whose capacity must suffice.
 pub(crate) fn sum_line(
     slaves: &mut Vec<u32>,
     blocks: &mut Vec<u32>,
@@ -184,7 +185,7 @@ pub(crate) fn sum_line(
     blocks.push_reserved(line_blocks);
 }
 
-/// Each of these is so much more, and then so much less.
+/// Adds one number to each of these sums, and subtracts another.
 fn shift(sums: &mut [u32], more: u32, less: u32)
     requires { All (λ sum. (less ≤ sum) × (sum + more < 4294967296)) sums.old }
     ensures { sums.new ≡ map (λ sum. sum + more - less) sums.old }
@@ -194,7 +195,7 @@ fn shift(sums: &mut [u32], more: u32, less: u32)
     }
 }
 
-/// The element with an index counts for so many from now on: the sums after it follow.
+/// Changes the weight of the element with an index: the sums after it follow.
 pub(crate) fn recount(sums: &mut [u32], index: usize, count: u32)
     requires inside { index + 1 < length sums.old }
     requires rising { IsNonDecreasing sums.old }

@@ -11,7 +11,7 @@ use hc_records::records::{Declared, Slave};
 use hc_records::room::Room;
 use std::alloc::{AllocError, Global};
 
-/// The variables that areas of declared slaves offer, in declared order.
+/// Returns the variables that areas of declared slaves offer, in declared order.
 fn declared_variables(alloc: Global, groups: &[Declared]) -> Result<Vec<u32>, AllocError>
     ensures { IfOk result (λ all. all.items ≡ variables groups.now) }
 {
@@ -22,7 +22,7 @@ fn declared_variables(alloc: Global, groups: &[Declared]) -> Result<Vec<u32>, Al
     Ok(all)
 }
 
-/// The variables that areas of declared slaves offer, the lowest first. `AllocError` where a growth was refused.
+/// Returns the variables that areas of declared slaves offer, the lowest first. `AllocError` if an allocation fails.
 pub(crate) fn sorted_variables(alloc: Global, groups: &[Declared]) -> Result<Vec<u32>, AllocError>
     ensures same { IfOk result (λ all. IsPermutation (variables groups.now) all.items) }
     ensures order { IfOk result (λ all. IsNonDecreasing all.items) }
@@ -32,7 +32,7 @@ pub(crate) fn sorted_variables(alloc: Global, groups: &[Declared]) -> Result<Vec
     Ok(all)
 }
 
-/// The variables that areas of slaves offer, the lowest first. `AllocError` where a growth was refused.
+/// Returns the variables that areas of slaves offer, the lowest first. `AllocError` if an allocation fails.
 pub(crate) fn sorted_names(alloc: Global, slaves: &[Slave]) -> Result<Vec<u32>, AllocError>
     ensures same { IfOk result (λ all. IsPermutation (slave_names slaves.now) all.items) }
     ensures order { IfOk result (λ all. IsNonDecreasing all.items) }
@@ -43,7 +43,7 @@ pub(crate) fn sorted_names(alloc: Global, slaves: &[Slave]) -> Result<Vec<u32>, 
     Ok(all)
 }
 
-/// Whether a variable is one of these.
+/// Returns whether a variable is one of these.
 pub(crate) fn is_one_of(variables: &[u32], variable: u32) -> bool
     requires { IsNonDecreasing variables.now }
     ensures { result ≡ list_any (λ other. other == variable) variables.now }
@@ -51,7 +51,7 @@ pub(crate) fn is_one_of(variables: &[u32], variable: u32) -> bool
     variables.binary_search(&variable).is_ok()
 }
 
-/// How many variables are lower than this one.
+/// Returns how many variables are lower than this one.
 fn count_lower(variables: &[u32], variable: u32) -> usize
     requires { IsNonDecreasing variables.now }
     ensures bound { result ≤ length variables.now }
@@ -60,7 +60,7 @@ fn count_lower(variables: &[u32], variable: u32) -> usize
     variables.partition_point(|other| *other < variable)
 }
 
-/// Shifts the variables from a place to another up by so many, and puts a variable before them.
+/// Shifts the variables from one index to another up by a number of places, and inserts a variable before them.
 fn put_below(all: &mut Vec<u32>, at: usize, left: usize, more: usize, variable: u32)
     requires order { at ≤ left }
     requires bound { left + more + 1 ≤ length all.old.items }
@@ -72,8 +72,8 @@ fn put_below(all: &mut Vec<u32>, at: usize, left: usize, more: usize, variable: 
     all[at + more] = variable;
 }
 
-/// Adds variables to others, both the lowest first, with the help of memory that was taken before: the highest
-/// first, and those of the others that are higher are shifted once.
+/// Merges variables into others, both the lowest first, in memory that was reserved: the highest first, and those of the others
+/// that are higher are shifted once.
 pub(crate) fn add_variables(variables: &mut Vec<u32>, room: Room<u32>, names: &[u32])
     requires order { IsNonDecreasing variables.old.items }
     requires own { IsNonDecreasing names.now }

@@ -14,15 +14,15 @@ use Rattle.hc_places.specs.Table.{Table, datagram_in, place_in}
 abbrev pub Bytes : Type 0
 Bytes = List (List ℕ)
 
--- of lists of bytes (`Bytes`) the one at the datagram's `slot_number`; empty where the lists end before it
+-- the bytes of a datagram among lists of bytes (`Bytes`), at its `slot_number`; empty if the lists end before it
 abbrev pub slot_bytes : Bytes → ℕ → ℕ → List ℕ
 slot_bytes bytes task d = slice_index_or bytes (slot_number task d) []
 
--- the length of a datagram in bytes, and where its data begin in its task's image; 0 where the task has no such datagram
+-- the length of a datagram in bytes, and the offset of its data in its task's image; 0 if the task has no such datagram
 abbrev pub length_in : Table → ℕ → ℕ → ℕ
 length_in table task d = option_map_or (λ datagram. datagram.length) (datagram_in table task d) 0
 
--- the byte of its task's image, counted from 0, where a datagram's data begin; 0 where the table has no such datagram
+-- the byte of its task's image, counted from 0, at which a datagram's data begin; 0 if the table has no such datagram
 abbrev pub offset_in : Table → ℕ → ℕ → ℕ
 offset_in table task d = option_map_or (λ datagram. datagram.offset) (datagram_in table task d) 0
 
@@ -32,7 +32,7 @@ pub record LiesInTable (table : Table) (place : VariablePlace) : Type 0 where
   pub datagram : place.datagram < MOST_DATAGRAMS
   pub within : place.bit + place.bits ≤ 8 * length_in table place.task place.datagram
 
--- so does each place of a table, and no two variables share a bit
+-- each place of a table lies in a datagram of it, and no two variables share a bit
 pub record IsLaidOut (table : Table) : Type 0 where
   pub inside : (variable : ℕ) (place : VariablePlace) → place_in table variable ≡ Some place → LiesInTable table place
   pub apart :
@@ -51,16 +51,17 @@ pub record LiesInTaskPlace (place : VariablePlace) (task d k : ℕ) : Type 0 whe
   pub from : place.bit ≤ k
   pub below : k < place.bit + place.bits
 
--- there are bytes for each datagram of the table, as many as it has, and none for any other
+-- each datagram of the table has as many bytes as its length, and no other datagram has any
 abbrev pub HasSizes : Table → Bytes → Type 0
 HasSizes table bytes =
     (task d : ℕ) → task < TASKS → d < MOST_DATAGRAMS → length (slot_bytes bytes task d) ≡ length_in table task d
 
--- and each of their numbers is a byte
+-- each of these numbers is a byte
 abbrev pub HasBytes : Bytes → Type 0
 HasBytes bytes = (task d : ℕ) → task < TASKS → d < MOST_DATAGRAMS → AreBytes (slot_bytes bytes task d)
 
--- so many, where each output variable has the bits of its value, and each bit that lies in no output variable's place is 0
+-- each datagram has its bytes, in which each output variable has the bits of its value, and each bit that lies in no output
+-- variable's place is 0
 pub record Carries (table : Table) (value : ℕ → ℕ → ℕ) (bytes : Bytes) : Type 0 where
   pub sizes : HasSizes table bytes
   pub all_bytes : HasBytes bytes
@@ -72,7 +73,7 @@ pub record Carries (table : Table) (value : ℕ → ℕ → ℕ) (bytes : Bytes)
       → ((variable : ℕ) (place : VariablePlace) → IsOutput table variable place → ¬ (LiesInTaskPlace place task d k))
       → bit_of (slot_bytes bytes task d) k ≡ 0
 
--- what is kept: the bytes as they are sent, and masks, where just the bits of output variables are 1
+-- the stored outputs: the bytes as they are sent, and masks, in which exactly the bits of output variables are 1
 pub record Packed : Type 0 where
   pub sent : Bytes
   pub masks : Bytes

@@ -1,4 +1,4 @@
--- What the code does to the bytes of datagrams, piece by piece; no public contract names it.
+-- Steps of the code on the bytes of datagrams. No public contract names these words.
 use Rattle.std.specs.Prelude.{◌≡◌, ◌≢◌, ℕ, ◌+◌, ◌-◌, ◌*◌, ◌^◌, ◌<◌, ◌≤◌, ◌⊎◌, Bool, if◌then◌else◌, List, [], ◌++◌, MatchOption, None, Option, Some, drop, is_some, length, min, option_and_then, replicate, slice_get, slice_index_or, sum_by, take}
 use Rattle.std.specs.Int.{bit_at}
 use Rattle.std.specs.Option.{option_map_or}
@@ -24,7 +24,7 @@ pub record AreBlank (table : Table) (bytes : Bytes) : Type 0 where
 abbrev pub output_of : VariablePlace → Option VariablePlace
 output_of place = if same_dir place.dir Out then Some place else None
 
--- where an output variable is in a table; none for any other variable
+-- the place of an output variable in a table; none for any other variable
 abbrev pub output_in : Table → ℕ → Option VariablePlace
 output_in table variable = option_and_then output_of (place_in table variable)
 
@@ -39,7 +39,7 @@ pub record WritesPlace (old new : Bytes) (place : VariablePlace) (run : ℕ → 
   pub bytes : AreBytes (slot_bytes new place.task place.datagram)
   pub all : length new ≡ length old
 
--- so it is at a place that may be lacking
+-- the bits of a place, if there is one, become those of a run, and every other bit of every datagram stays
 abbrev pub WritesAt : Option VariablePlace → (ℕ → ℕ) → Bytes → Bytes → Type 0
 WritesAt found run old new = MatchOption found (new ≡ old) (λ place. IsPlace place × WritesPlace old new place run)
 
@@ -82,7 +82,7 @@ pub record WritesEach (n : ℕ) (places : Numbered) (run : ℕ → ℕ → ℕ) 
   pub bytes : (task d : ℕ) → d < MOST_DATAGRAMS → AreBytes (slot_bytes old task d) → AreBytes (slot_bytes new task d)
   pub all : length new ≡ length old
 
--- the value of each is what was there, and the value of a lacking one is given
+-- the value at each place was taken up, and the value for a missing place is given
 pub record ReadsEach (n : ℕ) (places : Numbered) (bytes : Bytes) (lacking : ℕ) (values : List ℕ) : Type 0 where
   pub read :
       (i k : ℕ) (place : VariablePlace) → i < n → places i ≡ Some place → k < place.bits
@@ -109,11 +109,11 @@ resized size bytes = take size bytes ++ replicate (size - length bytes) 0
 abbrev pub table_data_length : TaskTable → ℕ → ℕ
 table_data_length table d = option_map_or (λ datagram. datagram.length) (slice_get table.datagrams d) 0
 
--- how many bytes there are for a datagram
+-- the number of bytes that a datagram has
 abbrev pub byte_count : Bytes → ℕ → ℕ → ℕ
 byte_count bytes task d = length (slot_bytes bytes task d)
 
--- zeros were added for each of the first n datagrams of a task that gets longer than `size`, as many as it gets
+-- zeros were added for each of the first n datagrams of a task that gets longer than `size`, as many as it gets longer
 pub record AddsRoom (n : ℕ) (size : ℕ → ℕ → ℕ) (task : ℕ) (table : TaskTable) (old new : Bytes) : Type 0 where
   pub all : length new ≡ length old + n
   pub zeros :
@@ -127,7 +127,7 @@ HasTaskRoom size task table at room =
     (d : ℕ) → task < TASKS → d < MOST_DATAGRAMS → size task d < table_data_length table d
     → slice_index_or room (at + d) [] ≡ replicate (table_data_length table d) 0
 
--- how many datagrams are in the tables of the first i of changed tasks: the zeros for the next one begin there
+-- the number of datagrams in the tables of the first i changed tasks: the zeros for the next one begin there
 abbrev pub room_start : List ChangedTask → ℕ → ℕ
 room_start changed i = sum_by (λ own. length own.1.datagrams) (take i changed)
 
@@ -145,7 +145,7 @@ pub record Resizes (task : ℕ) (table : TaskTable) (old new : Bytes) : Type 0 w
   pub rest : (other d : ℕ) → d < MOST_DATAGRAMS → other ≢ task → slot_bytes new other d ≡ slot_bytes old other d
   pub all : length new ≡ length old
 
--- so it is with the first n of changed tasks
+-- the bytes of the datagrams of the first n changed tasks get the lengths of their tables, and those of every other task stay
 pub record ResizesEach (n : ℕ) (changed : List ChangedTask) (old new : Bytes) : Type 0 where
   pub own :
       (i d : ℕ) (own : ChangedTask) → i < n → slice_get changed i ≡ Some own → d < MOST_DATAGRAMS
@@ -156,12 +156,12 @@ pub record ResizesEach (n : ℕ) (changed : List ChangedTask) (old new : Bytes) 
       → slot_bytes new task d ≡ slot_bytes old task d
   pub all : length new ≡ length old
 
--- over a change a variable keeps its value where it had a place; the bits of one that had none are all alike
+-- over a change a variable keeps its value if it had a place; the bits of one that had none are all alike
 abbrev pub carried_bit : Table → (ℕ → ℕ → ℕ) → Bool → ℕ → ℕ → ℕ
 carried_bit old value ones variable k =
     if is_some (place_in old variable) then value variable k else (if ones then 1 else 0)
 
--- whatever values the bytes carry at their places in one table, they carry them over to those in the next
+-- the bytes carry every value at its place in one table over to its place in the next
 abbrev pub CarriesOver : Table → Table → Bool → Bytes → Bytes → Type 0
 CarriesOver old new ones before after = (value : ℕ → ℕ → ℕ) → Carries old value before → Carries new (carried_bit old value ones) after
 
@@ -169,13 +169,13 @@ CarriesOver old new ones before after = (value : ℕ → ℕ → ℕ) → Carrie
 abbrev pub word_of : Bool → ℕ
 word_of ones = if ones then 2 ^ 64 - 1 else 0
 
--- where each changed variable is as an output in a table
+-- the place of each changed variable as an output in a table
 pub record ArePlaced (table : Table) (changed : List ChangedRow) (places : List (Option VariablePlace)) : Type 0 where
   pub count : length places ≡ length changed
   pub each :
       (i : ℕ) (row : ChangedRow) → slice_get changed i ≡ Some row → of_list places i ≡ output_in table row.0
 
--- what the code keeps of moves: where changed variables are, and room for their values
+-- the stored moves: the places of changed variables, and memory for their values
 pub record HoldsMoves (moves : Moves) (places : List (Option VariablePlace)) (values : List ℕ) : Type 0 where
   pub table : IsTable moves.before
   pub are_placed : ArePlaced moves.before moves.change.rows places

@@ -1,4 +1,4 @@
--- What becomes of the values of output variables: bit k of a variable's value is `value variable k`. It is this project's profile.
+-- The values of output variables: bit k of a variable's value is `value variable k` (this project's profile).
 use Rattle.std.specs.Prelude.{◌≡◌, ℕ, ◌+◌, ◌*◌, ◌==◌, is_some, if◌then◌else◌, List, Some}
 use Rattle.std.specs.Option.{option_map_or}
 use Rattle.hc_bits.specs.Bits.{bit_of}
@@ -6,7 +6,7 @@ use Rattle.hc_records.specs.Image.{VariablePlace}
 use Rattle.hc_places.specs.Table.{Table, place_in}
 use Rattle.hc_images.specs.Packed.{offset_in}
 
--- where a bit of a variable is in its task's image
+-- the bit of its task's image at which a bit of a variable lies
 abbrev pub table_image_bit : Table → VariablePlace → ℕ → ℕ
 table_image_bit table place k = 8 * offset_in table place.task place.datagram + place.bit + k
 
@@ -16,7 +16,7 @@ posted_values table task bytes value variable k =
     option_map_or (λ place. if place.task == task then bit_of bytes (table_image_bit table place k) else value variable k)
     (place_in table variable) (value variable k)
 
--- over an edit a variable keeps its value where it had a place; the value of one that had none is 0
+-- over an edit a variable keeps its value if it had a place; the value of one that had none is 0
 abbrev pub unchanged : Table → (ℕ → ℕ → ℕ) → ℕ → ℕ → ℕ
 unchanged old value variable k = if is_some (place_in old variable) then value variable k else 0
 

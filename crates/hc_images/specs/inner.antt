@@ -1,2 +1,2 @@
--- Words that contracts of private functions alone use.
+-- Words that only contracts of private functions use.
 pub mod Used

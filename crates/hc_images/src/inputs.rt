@@ -11,7 +11,7 @@ use hc_records::task::Task;
 use std::alloc::{AllocError, Global};
 use std::marker::Model;
 
-/// So many slots in a row have no data from now on.
+/// Takes the data from `count` slots in a row.
 fn clear_slots(slots: &mut [Slot], from: usize, count: usize)
     requires { from + count ≤ length slots.old }
     ensures size { length slots.new ≡ length slots.old }
@@ -25,8 +25,7 @@ fn clear_slots(slots: &mut [Slot], from: usize, count: usize)
     }
 }
 
-/// No slot has data from now on. Of each task the first datagrams alone may have data, as many as are
-/// reported.
+/// Takes the data from every slot. Only the first datagrams of each task may have data, as many as `used` says.
 fn clear_used(slots: &mut [Slot], used: &mut [u8; 8])
     requires whole { HasAllSlots slots.old }
     requires used { NoneAfter used.old slots.old }
@@ -40,13 +39,12 @@ fn clear_used(slots: &mut [Slot], used: &mut [u8; 8])
     }
 }
 
-/// For each datagram that a line can have the data that were put last since its task was cleared, or none.
-/// It has room for the longest data of each, about 190,000 bytes, from the start, so only `new` and `read`
-/// allocate.
+/// The data of each datagram that a line can have: those that were put last since its task was cleared, or none. It has the
+/// capacity for the longest data of each from the start, about 190,000 bytes, so only `new` and `read` allocate.
 #[derive(Debug)]
 pub struct Inputs {
     slots: Vec<Slot>,
-    // how many of the first datagrams of each task may have data
+    // the number of first datagrams of each task that may have data
     used: [u8; 8],
 }
 
@@ -74,8 +72,8 @@ impl Inputs {
     ghost use Rattle.std.specs.Option.{option_copied};
     ghost use Rattle.hc_images.specs.Image.{Empties, HasNone, Renews, data_of, data_of_first};
 
-    /// An image where no datagram has data. `AllocError` where the growth was refused; no other call
-    /// but `read` takes memory.
+    /// Returns an image in which no datagram has data. `AllocError` if an allocation fails; of all other calls only `read`
+    /// allocates.
     pub fn new(alloc: Global) -> Result<Inputs, AllocError>
         ensures { IfOk result (λ inputs. HasNone inputs) }
     {
@@ -89,16 +87,16 @@ impl Inputs {
         })
     }
 
-    /// No datagram has data from now on. It needs no allocation, and goes no further in each task than the last datagram
-    /// that had data.
+    /// Takes the data from every datagram. It allocates nothing, and goes no further in each task than the last datagram with
+    /// data.
     pub fn clear(&mut self)
         ensures { HasNone self.new }
     {
         clear_used(self.slots.as_mut_slice(), &mut self.used);
     }
 
-    /// A task's datagrams have no data from now on, and those of every other task keep theirs. It needs no allocation, and goes
-    /// no further than the last datagram of the task that had data.
+    /// Takes the data from a task's datagrams; those of every other task keep theirs. It allocates nothing, and goes no further
+    /// than the last datagram of the task with data.
     pub fn clear_task(&mut self, task: Task)
         ensures { Empties self.old self.new task }
     {
@@ -108,8 +106,8 @@ impl Inputs {
         self.used[at] = 0;
     }
 
-    /// A datagram has these data from now on, those of a good answer: at most 1,486 bytes. Its number in the
-    /// task is 0 to 15. Each other datagram keeps what it had. It takes no memory.
+    /// Stores the data of a good answer as those of its datagram, at most 1,486 bytes. The datagram's number in the task is 0
+    /// to 15. Every other datagram keeps its data. It allocates nothing.
     pub fn put(&mut self, task: Task, number: u8, bytes: &[u8])
         requires number { number < MOST_DATAGRAMS }
         requires few { length bytes.now ≤ MOST_DATAGRAM_BYTES }
@@ -120,8 +118,8 @@ impl Inputs {
         *used = (*used).max(number + 1);
     }
 
-    /// The data of a datagram, lent: the data that were put last since its task was cleared, or none. Its number in
-    /// the task is 0 to 15. It needs no allocation.
+    /// Lends the data of a datagram: those that were put last since its task was cleared, or `None`. Its number in the task is
+    /// 0 to 15. It allocates nothing.
     pub fn data(&self, task: Task, number: u8) -> Option<&[u8]>
         requires { number < MOST_DATAGRAMS }
         ensures { option_copied result ≡ data_of self.now task number }
@@ -129,8 +127,8 @@ impl Inputs {
         self.slots[slot_number(task.number(), number)].data()
     }
 
-    /// The data of a task's first datagrams, at most 16, each with its data or none: a line's task has so
-    /// many as its places say. `AllocError` where a growth was refused.
+    /// Returns a copy of the data, or none, of each of a task's first datagrams, at most 16. The number of a line's task is
+    /// that of its places. `AllocError` if an allocation fails.
     pub fn read(
         &self,
         alloc: Global,

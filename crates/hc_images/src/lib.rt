@@ -1,6 +1,6 @@
-//! The process data image. The inputs are each datagram's data of its last good answer since they were cleared, or none.
-//! The outputs are values packed as they are sent, so that posting and sending copy bytes; an edit moves them to
-//! their new places. The core keeps both, a published copy keeps the inputs.
+//! The process data image. The inputs are each datagram's data of its last good answer since they were cleared, or none. The
+//! outputs are values packed as they are sent, so that posting and sending copy bytes; an edit moves them to their new places.
+//! The core has both, a published copy the inputs.
 #![tactic(auto)]
 
 pub mod inputs;
@@ -9,3 +9,7 @@ pub mod outputs;
 mod row;
 mod rows;
 mod slot;
+
+pub use inputs::Inputs;
+pub use moves::Moves;
+pub use outputs::Outputs;

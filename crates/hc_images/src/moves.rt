@@ -1,5 +1,5 @@
-//! What an edit does to output values. The core makes the moves before the edit changes anything, and the
-//! outputs carry them out.
+//! The moves of output values over an edit. The core prepares them before the edit changes anything, and the outputs carry them
+//! out.
 ghost use Rattle.std.specs.Prelude.{◌≡◌, ◌*◌, length};
 ghost use Rattle.hc_records.specs.declared.limits.TheConstants.{MOST_DATAGRAMS, TASKS};
 ghost use Rattle.hc_places.specs.Swap.{swapped};
@@ -15,8 +15,8 @@ use std::alloc::{AllocError, Global};
 use std::marker::Model;
 use std::snapshot::Snapshot;
 
-/// Where the variables that an edit moves, or that appear or go, were as outputs, with the memory for their
-/// values. Contracts see the table where they were, and what the edit changes in it.
+/// The old places, as outputs, of the variables that an edit moves, or that appear or go, with the memory for their values.
+/// Contracts see the old table, and the change of it.
 #[derive(Drop)]
 pub(crate) struct MovedPlaces {
     before: Snapshot<Places>,
@@ -36,8 +36,8 @@ impl Model for MovedPlaces {
     ghost invariant = { λ moves. HoldsMoves (record { before = moves.before.value; change = moves.swap.value.change }) moves.places.items moves.values.items };
 }
 
-/// The moves of output values, with all memory that they take: for the values, and for the datagrams that get longer.
-/// Contracts see the table where the variables were, and what the edit changes in it.
+/// The moves of output values, with all memory that they need: for the values, and for the datagrams that get longer. Contracts
+/// see the old table, and the change of it.
 #[derive(Drop)]
 pub struct Moves {
     pub(crate) moved: MovedPlaces,
@@ -60,16 +60,15 @@ impl Model for Moves {
     ghost invariant = { λ moves. HasRoomToGrow (length moves.moved.change.tasks) (length_in moves.moved.before) moves.moved.change.tasks moves.sent.items × HasRoomToGrow (length moves.moved.change.tasks) (length_in moves.moved.before) moves.moved.change.tasks moves.masks.items };
 }
 
-/// A word of ones, or of zeros.
+/// Returns a word of ones, or of zeros.
 fn word_of(ones: bool) -> u64
     ensures { result ≡ word_of ones }
 {
     if ones { u64::MAX } else { 0 }
 }
 
-/// Carries bits over from the places in the one table to those in the other: all are taken up before any is
-/// put down. The bits of a variable that had no place are all ones or all zeros. Datagrams that get longer take the memory of
-/// `room`.
+/// Carries bits over from the places in one table to those in the other: all are taken up before any is put down. The bits of a
+/// variable that had no place are all ones or all zeros. Datagrams that get longer use the memory of `room`.
 fn carry_over(
     rows: &mut [DatagramBytes],
     places: &[Option<Place>],
@@ -106,7 +105,7 @@ impl MovedPlaces {
     ghost use Rattle.hc_images.specs.Pieces.{CarriesOver, HasRoomToGrow};
     ghost use Rattle.hc_images.specs.Values.{KeepEntries};
 
-    /// Where the variables that a swap changes are as outputs in a table. `AllocError` where a growth was refused.
+    /// Returns the places, as outputs in a table, of the variables that a swap changes. `AllocError` if an allocation fails.
     fn of(alloc: Global, old: &Places, swap: &Swap) -> Result<MovedPlaces, AllocError>
         ensures { IfOk result (λ moves. moves ≡ record { before = old.now; change = swap.now.change }) }
     {
@@ -162,8 +161,8 @@ impl MovedPlaces {
 impl Moves {
     ghost use Rattle.std.specs.Prelude.{◌≡◌, IfOk};
 
-    /// The moves of output values over what a swap changes in a table. The swap says where the changed variables are
-    /// there, and no others are looked at. `AllocError` where a growth was refused.
+    /// Prepares the moves of output values over a swap of a table. The swap says where the changed variables are there, and no
+    /// others are read. `AllocError` if an allocation fails.
     pub fn of(alloc: Global, old: &Places, swap: &Swap) -> Result<Moves, AllocError>
         ensures { IfOk result (λ moves. moves ≡ record { before = old.now; change = swap.now.change }) }
     {

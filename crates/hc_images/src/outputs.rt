@@ -14,9 +14,9 @@ use hc_records::task::Task;
 use std::alloc::{AllocError, Global};
 use std::marker::Model;
 
-/// The bytes of each datagram as they are sent, and masks of the bits of output variables. Each has memory of its own for the
-/// bytes of its datagram: so no post takes memory, and an edit, whose `Moves` bring it, for the moved values and for the
-/// datagrams that get longer. Memory of a datagram that gets shorter, or goes, stays until it gets longer again.
+/// The bytes of each datagram as they are sent, and masks of the bits of output variables. Each datagram has memory of its own,
+/// so no post allocates. An edit allocates in its `Moves`, for the moved values and for the datagrams that get longer. The
+/// memory of a datagram that gets shorter, or is gone, stays until it gets longer again.
 #[derive(Debug)]
 pub struct Outputs {
     sent: Vec<DatagramBytes>,
@@ -39,7 +39,7 @@ impl Model for Outputs {
     ghost invariant = { λ outputs. MasksFitBytes (record { sent = outputs.sent.items; masks = outputs.masks.items }) };
 }
 
-/// The bytes from one on; none where there are fewer.
+/// Returns the bytes from an index on; none if there are fewer.
 fn from_byte(bytes: &[u8], offset: u16) -> &[u8]
     ensures { result.now ≡ drop offset bytes.now }
 {
@@ -49,7 +49,7 @@ fn from_byte(bytes: &[u8], offset: u16) -> &[u8]
     }
 }
 
-/// Takes a post of a task into the bytes of its datagrams, by their masks.
+/// Writes a post of a task into the bytes of its datagrams, by their masks.
 fn post_datagrams(
     sent: &mut [DatagramBytes],
     masks: &[DatagramBytes],
@@ -67,7 +67,7 @@ fn post_datagrams(
     }
 }
 
-/// The same of all rows that are kept.
+/// Writes a post of a task into all stored bytes, by their masks.
 fn post_all(
     sent: &mut Vec<DatagramBytes>,
     masks: &Vec<DatagramBytes>,
@@ -87,7 +87,7 @@ impl Outputs {
     ghost use Rattle.hc_images.specs.Packed.{HasSizes, HoldsOutputValues, IsLaidOut, sent_bytes};
     ghost use Rattle.hc_images.specs.Values.{KeepEntries, unchanged, posted_values};
 
-    /// The outputs of a table whose values are all 0. `AllocError` where a growth was refused; no other call takes memory.
+    /// Returns the outputs of a table with all values 0. `AllocError` if an allocation fails; no other call allocates.
     pub fn new(alloc: Global, places: &Places) -> Result<Outputs, AllocError>
         requires { IsLaidOut places.now }
         ensures { IfOk result (λ outputs. HoldsOutputValues places.now (λ variable k. 0) outputs) }
@@ -98,9 +98,9 @@ impl Outputs {
         Ok(Outputs { sent, masks })
     }
 
-    /// A post of a task by the table of the present line: the task's output variables have their bits
-    /// in the post as their values, bits after its end being 0; those of other tasks keep theirs. Bits
-    /// of the post that belong to no output variable are never sent. It takes no memory.
+    /// Writes a post of a task by the table of the present line: the task's output variables get their bits of the post as
+    /// values, bits after its end being 0; those of other tasks keep theirs. Bits of the post that belong to no output variable
+    /// are never sent. It allocates nothing.
     pub fn post(&mut self, places: &Places, task: Task, bytes: &[u8])
         requires { IsLaidOut places.now }
         ensures { (value : ℕ → ℕ → ℕ) → HoldsOutputValues places.now value self.old → HoldsOutputValues places.now (posted_values places.now task bytes.now value) self.new }
@@ -108,8 +108,8 @@ impl Outputs {
         post_all(&mut self.sent, &self.masks, places, task, bytes);
     }
 
-    /// The data that a datagram is sent with, by its task, 0 to 7, and its number in the task, 0 to 15; no
-    /// bytes where the table has no such datagram, and for any other task or number.
+    /// Returns the data with which a datagram is sent, by its task, 0 to 7, and its number in the task, 0 to 15. It has no
+    /// bytes if the table has no such datagram, and for any other task or number.
     pub fn bytes(&self, task: u8, number: u8) -> &[u8]
         ensures { result.now ≡ sent_bytes self.now task number }
     {
@@ -120,9 +120,9 @@ impl Outputs {
         }
     }
 
-    /// The line changed from one table to another, by a swap: a variable with a place in the old one keeps
-    /// its value, and the value of any other is 0. Only the bytes of changed variables and of changed tasks
-    /// are touched. It takes no memory; the moves bring all that it needs.
+    /// Changes the line from one table to another, by a swap: a variable with a place in the old one keeps its value, and the
+    /// value of any other is 0. Only the bytes of changed variables and of changed tasks are written. It allocates nothing; the
+    /// moves have all memory.
     pub fn change(&mut self, moves: Moves, swap: &Swap)
         requires swap { swap.now.change ≡ moves.change }
         requires laid { IsLaidOut moves.before }

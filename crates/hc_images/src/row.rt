@@ -22,7 +22,7 @@ impl Model for DatagramBytes {
     ghost view = { λ row. row.bytes.items };
 }
 
-/// The first bytes become these, and the others stay.
+/// Replaces the first bytes; the others stay.
 fn put_front(own: &mut [u8], bytes: &[u8])
     requires { length bytes.now ≤ length own.old }
     ensures { own.new ≡ bytes.now ++ drop (length bytes.now) own.old }
@@ -30,8 +30,7 @@ fn put_front(own: &mut [u8], bytes: &[u8])
     own[..bytes.len()].copy_from_slice(bytes);
 }
 
-/// Each byte becomes the one of `bytes` at its index with the bits of the mask alone, or 0 after their
-/// end.
+/// Replaces each byte by the one of `bytes` at its index with the bits of the mask alone, or by 0 after their end.
 fn copy_masked(own: &mut [u8], mask: &[u8], bytes: &[u8])
     requires { length mask.now ≡ length own.old }
     ensures bits { (k : ℕ) → bit_of own.new k ≡ min (bit_of bytes.now k) (bit_of mask.now k) }
@@ -45,7 +44,7 @@ fn copy_masked(own: &mut [u8], mask: &[u8], bytes: &[u8])
     rest.fill(0);
 }
 
-/// A number whose bits are ones, so many, from 1 to 64.
+/// Returns a number of `bits` ones, from 1 to 64.
 fn ones(bits: u8) -> u64
     requires some { 1 ≤ bits }
     requires most { bits ≤ 64 }
@@ -55,7 +54,7 @@ fn ones(bits: u8) -> u64
     u64::MAX >> (64 - bits)
 }
 
-/// The lowest bits of a value, so many, from 1 to 64.
+/// Returns the lowest `bits` bits of a value, from 1 to 64.
 fn lowest(value: u64, bits: u8) -> u64
     requires some { 1 ≤ bits }
     requires most { bits ≤ 64 }
@@ -65,7 +64,7 @@ fn lowest(value: u64, bits: u8) -> u64
     value & ones(bits)
 }
 
-/// Puts the lowest bits of a value, 1 to 64, from one on.
+/// Writes the lowest bits of a value, 1 to 64, from a bit on.
 fn put_run(bytes: &mut [u8], at: usize, bits: u8, value: u64)
     requires some { 1 ≤ bits }
     requires most { bits ≤ 64 }
@@ -83,7 +82,7 @@ impl DatagramBytes {
     ghost use Rattle.hc_records.specs.declared.limits.TheConstants.{MOST_ENTRY_BITS};
     ghost use Rattle.hc_images.specs.Pieces.{resized};
 
-    /// So many zeros. `AllocError` where the growth was refused; none takes no memory.
+    /// Returns zeros. `AllocError` if an allocation fails; none needs no allocation.
     pub(crate) fn zeros(alloc: Global, size: u16) -> Result<DatagramBytes, AllocError>
         ensures { IfOk result (λ row. row ≡ replicate size 0) }
     {
@@ -92,14 +91,14 @@ impl DatagramBytes {
         })
     }
 
-    /// The bytes.
+    /// Returns the bytes.
     pub(crate) fn as_slice(&self) -> &[u8]
         ensures { result.now ≡ self.now }
     {
         self.bytes.as_slice()
     }
 
-    /// Its bytes lie at the front of more zeros from now on, which give their memory for its own.
+    /// Moves its bytes to the front of more zeros, whose memory it then has.
     fn grow(&mut self, zeros: &mut DatagramBytes)
         requires { length self.old ≤ length zeros.old }
         ensures { self.new ≡ self.old ++ drop (length self.old) zeros.old }
@@ -108,8 +107,8 @@ impl DatagramBytes {
         mem::swap(&mut self.bytes, &mut zeros.bytes);
     }
 
-    /// Gets another length: bytes after it go, and those that come are zeros. Where it gets longer, `zeros` are as many as it
-    /// gets, and it takes their memory.
+    /// Changes the length: bytes after it go, and new ones are zeros. If the datagram gets longer, `zeros` has as many bytes as
+    /// it gets, and their memory is used.
     pub(crate) fn resize(&mut self, size: u16, zeros: &mut DatagramBytes)
         requires { length self.old < size → zeros.old ≡ replicate size 0 }
         ensures { self.new ≡ resized size self.old }
@@ -122,14 +121,14 @@ impl DatagramBytes {
         }
     }
 
-    /// Loses its bytes; their memory stays.
+    /// Removes the bytes; their memory stays.
     pub(crate) fn clear(&mut self)
         ensures { self.new ≡ [] }
     {
         self.bytes.clear();
     }
 
-    /// The 1 to 64 bits from one on, as a number.
+    /// Returns 1 to 64 bits from a bit on, as a number.
     pub(crate) fn value(&self, at: u16, bits: u8) -> u64
         requires most { bits ≤ MOST_ENTRY_BITS }
         requires within { at + bits ≤ 8 * length self.now }
@@ -138,7 +137,7 @@ impl DatagramBytes {
         get_bits(self.bytes.as_slice(), usize::from(at), usize::from(bits))
     }
 
-    /// Puts the lowest bits of a value, 1 to 64, from one on.
+    /// Writes the lowest bits of a value, 1 to 64, from a bit on.
     pub(crate) fn put(&mut self, at: u16, bits: u8, value: u64)
         requires some { 1 ≤ bits }
         requires most { bits ≤ MOST_ENTRY_BITS }
@@ -150,7 +149,7 @@ impl DatagramBytes {
         put_run(self.bytes.as_mut_slice(), usize::from(at), bits, value);
     }
 
-    /// Takes the bits of the mask from bytes, from their first on; every other bit becomes 0.
+    /// Copies the bits of the mask from bytes, from their first on; every other bit becomes 0.
     pub(crate) fn post(&mut self, mask: &DatagramBytes, bytes: &[u8])
         requires { length mask.now ≡ length self.old }
         ensures bits { (k : ℕ) → bit_of self.new k ≡ min (bit_of bytes.now k) (bit_of mask.now k) }

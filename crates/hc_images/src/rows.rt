@@ -1,4 +1,4 @@
-//! The bytes of all datagrams that a line can have: made for a table, and what an edit does to them.
+//! The bytes of all datagrams that a line can have: made for a table, and changed by an edit.
 ghost use Rattle.std.specs.Prelude.{◌≡◌, ◌+◌, ◌*◌, ◌<◌, ◌≤◌, ℕ, [], IfOk, IfSome, OnOk, Some, length, option_and_then, slice_index_or};
 ghost use Rattle.std.specs.Int.{bit_at};
 ghost use Rattle.std.specs.Option.{MatchOption};
@@ -16,7 +16,7 @@ use hc_records::slots::{SLOTS, slot_number};
 use hc_records::task::Task;
 use std::alloc::{AllocError, Global};
 
-/// The bytes of a datagram in a table; 0 where the task has no such datagram.
+/// Returns the number of bytes of a datagram in a table; 0 if the task has no such datagram.
 fn length_in(places: &Places, task: u8, number: u8) -> u16
     ensures length { result ≡ length_in places.now task number }
     ensures most { result ≤ 1486 }
@@ -27,7 +27,7 @@ fn length_in(places: &Places, task: u8, number: u8) -> u16
     }
 }
 
-/// Rows for the datagrams of a table, all 0. `AllocError` where the growth was refused.
+/// Returns rows of zeros for the datagrams of a table. `AllocError` if an allocation fails.
 pub(crate) fn blank_rows(alloc: Global, places: &Places) -> Result<Vec<DatagramBytes>, AllocError>
     ensures { IfOk result (λ rows. AreBlank places.now rows.items) }
 {
@@ -44,7 +44,7 @@ pub(crate) fn blank_rows(alloc: Global, places: &Places) -> Result<Vec<DatagramB
     Ok(rows)
 }
 
-/// A place, if there is one and it is an output variable's.
+/// Returns a place, if there is one and it is an output variable's.
 pub(crate) fn output(place: Option<Place>) -> Option<Place>
     ensures { result ≡ option_and_then output_of place }
 {
@@ -56,7 +56,7 @@ pub(crate) fn output(place: Option<Place>) -> Option<Place>
     }
 }
 
-/// Puts the lowest bits of a value at a place.
+/// Writes the lowest bits of a value at a place.
 fn put_at(rows: &mut [DatagramBytes], place: Place, value: u64)
     requires all { length rows.old ≡ MOST_DATAGRAMS * TASKS }
     requires within { place.bit + place.bits ≤ 8 * length (slot_bytes rows.old place.task place.datagram) }
@@ -65,7 +65,7 @@ fn put_at(rows: &mut [DatagramBytes], place: Place, value: u64)
     rows[slot_number(place.task, place.datagram)].put(place.bit, place.bits, value);
 }
 
-/// The bits at a place, as a number.
+/// Returns the bits at a place, as a number.
 fn value_at(rows: &[DatagramBytes], place: Place) -> u64
     requires all { length rows.now ≡ MOST_DATAGRAMS * TASKS }
     requires within { place.bit + place.bits ≤ 8 * length (slot_bytes rows.now place.task place.datagram) }
@@ -74,7 +74,7 @@ fn value_at(rows: &[DatagramBytes], place: Place) -> u64
     rows[slot_number(place.task, place.datagram)].value(place.bit, place.bits)
 }
 
-/// Puts the lowest bits of a value at a place, if there is one.
+/// Writes the lowest bits of a value at a place, if there is one.
 fn put(rows: &mut [DatagramBytes], place: Option<Place>, value: u64)
     requires all { length rows.old ≡ MOST_DATAGRAMS * TASKS }
     requires within { IfSome place (λ place. place.bit + place.bits ≤ 8 * length (slot_bytes rows.old place.task place.datagram)) }
@@ -85,7 +85,7 @@ fn put(rows: &mut [DatagramBytes], place: Option<Place>, value: u64)
     }
 }
 
-/// Takes the bits at a place up, which are 0 from then on; if there is none, the value that is given.
+/// Takes up the bits at a place, which are 0 from then on; if there is no place, returns the value that is given.
 fn take(rows: &mut [DatagramBytes], place: Option<Place>, lacking: u64) -> u64
     requires all { length rows.old ≡ MOST_DATAGRAMS * TASKS }
     requires within { IfSome place (λ place. place.bit + place.bits ≤ 8 * length (slot_bytes rows.old place.task place.datagram)) }
@@ -100,7 +100,7 @@ fn take(rows: &mut [DatagramBytes], place: Option<Place>, lacking: u64) -> u64
     value
 }
 
-/// Makes ones of the bits of a table's output variables, in bytes that are all 0.
+/// Sets the bits of a table's output variables to ones, in bytes that are all 0.
 fn mark(rows: &mut [DatagramBytes], places: &Places)
     requires laid { IsLaidOut places.now }
     requires blank { AreBlank places.now rows.old }
@@ -112,7 +112,7 @@ fn mark(rows: &mut [DatagramBytes], places: &Places)
     }
 }
 
-/// Makes the masks of a table of bytes that are all 0.
+/// Makes the masks of a table from bytes that are all 0.
 pub(crate) fn make_masks(rows: &mut Vec<DatagramBytes>, places: &Places)
     requires laid { IsLaidOut places.now }
     requires blank { AreBlank places.now rows.old.items }
@@ -122,7 +122,7 @@ pub(crate) fn make_masks(rows: &mut Vec<DatagramBytes>, places: &Places)
     mark(rows.as_mut_slice(), places);
 }
 
-/// Takes the values at places up; the value of one that is lacking is given.
+/// Takes up the values at places; for a missing place the value that is given.
 pub(crate) fn take_up(
     rows: &mut [DatagramBytes],
     places: &[Option<Place>],
@@ -142,7 +142,7 @@ pub(crate) fn take_up(
     }
 }
 
-/// Puts the values of changed variables down at the new places of the outputs among them.
+/// Writes the values of changed variables at the new places of the outputs among them.
 pub(crate) fn put_down(rows: &mut [DatagramBytes], changed: &[ChangedRow], values: &[u64])
     requires all { length rows.old ≡ MOST_DATAGRAMS * TASKS }
     requires values { length values.now ≡ length changed.now }
@@ -155,7 +155,7 @@ pub(crate) fn put_down(rows: &mut [DatagramBytes], changed: &[ChangedRow], value
     }
 }
 
-/// The bytes of a datagram in the table of its task; 0 where the task has no such datagram.
+/// Returns the number of bytes of a datagram in the table of its task; 0 if the task has no such datagram.
 fn length_of(table: &TaskTable, number: usize) -> u16
     ensures length { result ≡ table_data_length table.now number }
     ensures most { result ≤ 1486 }
@@ -166,7 +166,7 @@ fn length_of(table: &TaskTable, number: usize) -> u16
     }
 }
 
-/// A number of bytes where a datagram has fewer in a table; else 0.
+/// Returns a number of bytes if a datagram has fewer in a table; else 0.
 fn growth(places: &Places, task: Task, number: u8, size: u16) -> u16
     ensures { length_in places.now task number < size → result ≡ size }
 {
@@ -177,8 +177,8 @@ fn growth(places: &Places, task: Task, number: u8, size: u16) -> u16
     }
 }
 
-/// Adds zeros for each datagram of a task's table that gets longer than it is in `places`, as many as it gets, and none for any
-/// other. `AllocError` where a growth was refused.
+/// Adds zeros for each datagram of a task's table that gets longer than it is in `places`, as many bytes as it gets, and none
+/// for any other. `AllocError` if an allocation fails.
 fn push_room(
     alloc: Global,
     room: &mut Vec<DatagramBytes>,
@@ -196,8 +196,8 @@ fn push_room(
     Ok(())
 }
 
-/// Zeros for the datagrams of changed tasks that get longer than in a table, changed task by changed task. `AllocError` where
-/// a growth was refused.
+/// Returns zeros for the datagrams of changed tasks that get longer than in a table, changed task by changed task. `AllocError`
+/// if an allocation fails.
 pub(crate) fn room_for(
     alloc: Global,
     places: &Places,
@@ -212,7 +212,7 @@ pub(crate) fn room_for(
     Ok(room)
 }
 
-/// Gives the datagrams of a task the lengths of its table. Those that get longer take the memory of zeros, which are in `room`
+/// Gives the datagrams of a task the lengths of its table. Those that get longer use the memory of zeros, which are in `room`
 /// from `at` on.
 fn resize_task(
     rows: &mut [DatagramBytes],
@@ -238,7 +238,7 @@ fn resize_task(
     }
 }
 
-/// Gives the datagrams of changed tasks the lengths of their new tables, in memory of `room` where they get longer.
+/// Gives the datagrams of changed tasks the lengths of their new tables, in memory of `room` if they get longer.
 pub(crate) fn resize(
     rows: &mut [DatagramBytes],
     changed: &[ChangedTask],

@@ -8,7 +8,7 @@ use hc_records::items::Items;
 use std::alloc::{AllocError, Global};
 use std::marker::Model;
 
-/// The data of a datagram, or none, with room for the longest data.
+/// The data of a datagram, or none, with the capacity for the longest data.
 #[derive(Debug, Drop)]
 pub(crate) struct Slot {
     is_fresh: bool,
@@ -24,7 +24,7 @@ impl Model for Slot {
 }
 
 impl Slot {
-    /// One without data.
+    /// Returns a slot without data.
     pub(crate) fn new() -> Slot
         ensures { result ≡ None }
     {
@@ -34,15 +34,15 @@ impl Slot {
         }
     }
 
-    /// From now on it has no data.
+    /// Takes the data from the slot.
     pub(crate) fn clear(&mut self)
         ensures { self.new ≡ None }
     {
         self.is_fresh = false;
     }
 
-    /// From now on it has these data, at most 1,486 bytes. If they are as many as before, they are written over the old
-    /// ones; a list that is cleared is zeroed.
+    /// Stores data, at most 1,486 bytes. Data of the same length are written over the old ones, since a list that is cleared is
+    /// zeroed.
     pub(crate) fn put(&mut self, bytes: &[u8])
         requires { length bytes.now ≤ MOST_DATAGRAM_BYTES }
         ensures { self.new ≡ Some bytes.now }
@@ -56,7 +56,7 @@ impl Slot {
         self.is_fresh = true;
     }
 
-    /// Its data, lent, or none.
+    /// Lends the data, or `None`.
     pub(crate) fn data(&self) -> Option<&[u8]>
         ensures { option_copied result ≡ self.now }
     {
@@ -67,7 +67,7 @@ impl Slot {
         }
     }
 
-    /// A copy of its data, or none. `AllocError` where a growth was refused.
+    /// Returns a copy of the data, or none. `AllocError` if an allocation fails.
     pub(crate) fn read(&self, alloc: Global) -> Result<Option<Items<u8>>, AllocError>
         ensures { IfOk result (λ copy. copy ≡ self.now) }
     {

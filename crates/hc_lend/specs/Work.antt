@@ -1,4 +1,4 @@
--- A list in parts, and what work leaves of each.
+-- A list in parts, and the result of work on each.
 use Rattle.std.specs.Prelude.{ℕ, List, [], ◌∷◌, take, drop, map, All, ◌≡◌, ◌+◌, ◌^◌, ◌<◌, length, sum}
 use Rattle.std.specs.List.{enumerate_from, range_with_len}
 
@@ -11,15 +11,16 @@ parts_of (n ∷ ns) bytes = take n bytes ∷ parts_of ns (drop n bytes)
 abbrev pub numbered_parts : ℕ → List ℕ → List ℕ → List (ℕ × List ℕ)
 numbered_parts first lengths bytes = enumerate_from first (parts_of lengths bytes)
 
--- what is left of each part, by its number and its bytes
+-- the result of each part, by its number and its bytes
 abbrev pub worked_parts : (ℕ → List ℕ → List ℕ) → ℕ → List ℕ → List ℕ → List (List ℕ)
 worked_parts leaves first lengths bytes = map (λ part. leaves part.0 part.1) (numbered_parts first lengths bytes)
 
--- the part with this number and these bytes may be worked on once its worker has passed the gate: work before it isn't allowed
+-- the part with this number and these bytes may be worked on once its worker has passed the gate; work before that is not
+-- allowed
 abbrev pub CanWorkOnceBegun : (ℕ → Type 0) → (ℕ → List ℕ → Type 0) → ℕ → List ℕ → Type 0
 CanWorkOnceBegun passed can part bytes = passed part → can part bytes
 
--- whether each part may be worked on, by its number and its bytes
+-- each part may be worked on, by its number and its bytes
 abbrev pub CanWorkOnEach : (ℕ → List ℕ → Type 0) → ℕ → List ℕ → List ℕ → Type 0
 CanWorkOnEach can first lengths bytes = All (λ part. can part.0 part.1) (numbered_parts first lengths bytes)
 
@@ -27,7 +28,7 @@ CanWorkOnEach can first lengths bytes = All (λ part. can part.0 part.1) (number
 abbrev pub CanWorkOnAll : (ℕ → List ℕ → Type 0) → ℕ → List ℕ → List ℕ → Type 0
 CanWorkOnAll can first lengths bytes = (sum lengths ≡ length bytes) × (first + length lengths < 2 ^ 64) × CanWorkOnEach can first lengths bytes
 
--- so many workers from this number on have passed a gate
+-- `count` workers, from this number on, have passed a gate
 abbrev pub HavePassed : (ℕ → Type 0) → ℕ → ℕ → Type 0
 HavePassed passed first count = All passed (range_with_len first count)
 

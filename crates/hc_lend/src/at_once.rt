@@ -1,5 +1,5 @@
-//! One worker for each part of a slice, all at once.
-//! Whoever fills bytes for several tasks gives each task its part, and says what the work leaves there.
+//! Work on all parts of a slice at once, with one worker for each. A caller that fills bytes for several tasks gives each task
+//! its part, and states the result of the work there.
 ghost use Rattle.std.specs.Prelude.{◌≡◌, ◌+◌, ◌<◌, ◌^◌, length, sum, List, ℕ};
 ghost use Rattle.std.specs.List.{concat};
 ghost use Rattle.std.specs.Thread.{IsSync};
@@ -8,13 +8,12 @@ ghost use Rattle.hc_lend.specs.Work.{parts_of, worked_parts, CanWorkOnEach, CanW
 use crate::parts::Parts;
 use std::thread::{Threads, join_mut};
 
-/// What is done with each part of a slice, by a worker of its own. Parts are numbered from 0, in order.
+/// The work on each part of a slice, by a worker of its own. Parts are numbered from 0, in order.
 pub trait PartWork {
-    /// Whether the part with this number may be worked on, where it has these bytes.
-    /// Any may, unless the work says otherwise.
+    /// Whether the part with this number and these bytes may be worked on. Every part may, unless the work says otherwise.
     ghost can_work: { Self → ℕ → List ℕ → Type 0 } = { λ _ _ _. Unit {0} };
 
-    /// What the work leaves of the part with this number, which had these bytes.
+    /// The result of the part with this number, which had these bytes.
     ghost leaves: { Self → ℕ → List ℕ → List ℕ };
 
     /// Works on the part with this number.
@@ -23,24 +22,23 @@ pub trait PartWork {
         ensures { bytes.new ≡ leaves self.now part bytes.old };
 }
 
-/// What each worker passes before its work.
+/// The gate that each worker passes before its work.
 pub trait Gate {
-    /// What is so once the worker with this number has passed: nothing, unless the gate says otherwise. A caller of
-    /// any gate has it of `begun` alone, so a contract that names it says that the gate was called.
+    /// The fact that holds once the worker with this number has passed: nothing, unless the gate says otherwise. Only `begun`
+    /// gives it, so a contract that names it says that the gate was called.
     ghost passed: { Self → ℕ → Type 0 } = { λ _ _. Unit {0} };
 
-    /// The worker of the part with this number has begun. It may be held here, and works once this returns.
+    /// Begins the work of the part with this number. The worker may be held here, and works once this returns.
     fn begun(&self, worker: usize)
         ensures { passed self.now worker };
 }
 
-/// Works on all parts at once, with one worker for each: this thread for the last part, and a thread of its own
-/// for every other. Each worker calls the gate once, with its part's number, and then does its work: a part has to be fit for
-/// its work only once the gate is passed with its number. It returns once all workers are done. It takes no memory and is never
-/// refused. With no part it does nothing.
+/// Works on all parts at once, with one worker for each: this thread for the last part, and a thread of its own for every
+/// other. Each worker calls the gate once, with its part's number, before its work; a part need be fit for its work only after
+/// that. The call returns when all workers have ended. It allocates nothing and cannot fail. Without a part it does nothing.
 ///
-/// A part is worked on in this thread, after the parts that follow it, where the system makes no thread for it.
-/// No clause says that the workers run at once, or that a worker calls the gate no second time.
+/// If the system starts no thread for a part, this thread works on it after the parts that follow. No clause says that the
+/// workers run at once, or that a worker calls the gate only once.
 pub fn each_at_once<R: Threads + Sync, W: PartWork + Sync, G: Gate + Sync>(
     rt: &R,
     parts: Parts<'_>,

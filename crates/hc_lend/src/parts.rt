@@ -1,10 +1,10 @@
-//! A slice in parts of given lengths, handed out one after another.
-//! Whoever lends bytes to several workers makes the parts: `each_at_once` lends each to one of them.
+//! A slice in parts of given lengths, taken one after another. A caller that lends bytes to several workers makes the parts:
+//! `each_at_once` lends each to one of them.
 ghost use Rattle.std.specs.Borrow.{sem, LendsBoth, Array, u8};
 ghost use Rattle.std.specs.Prelude.{◌≡◌, [], ◌∷◌, ◌++◌, length, sum, ◌<◌, ◌≤◌, ◌↔◌, IsTrue};
 
-/// The bytes that are not handed out yet, and the lengths of their parts in bytes, one after another.
-/// The lengths add up to the number of bytes. A length may be 0.
+/// The bytes that were not taken yet, and the lengths of their parts in bytes, one after another. The lengths add up to the
+/// number of bytes. A length may be 0.
 #[derive(Drop)]
 pub struct Parts<'a> {
     pub bytes: &'a mut [u8],
@@ -15,7 +15,7 @@ pub struct Parts<'a> {
 impl<'a> Parts<'a> {
     ghost use Rattle.hc_lend.specs.Parts.{LendsPart};
 
-    /// The slice in parts of these lengths, in bytes, which add up to its own. It takes no memory and is never refused.
+    /// Returns the slice in parts of these lengths in bytes, which add up to its own. It allocates nothing and cannot fail.
     pub fn of(bytes: &'a mut [u8], lengths: &'a [u32]) -> Self
         requires { sum lengths.now ≡ length bytes.old }
         ensures same_reference { result.bytes.ghost_name ≡ bytes.entry.ghost_name }
@@ -25,19 +25,18 @@ impl<'a> Parts<'a> {
         Self { bytes, lengths }
     }
 
-    /// Whether no part is left to take.
+    /// Returns whether no part is left.
     pub fn is_empty(&self) -> bool
         ensures { IsTrue result ↔ (self.now.lengths.now ≡ []) }
     {
         self.lengths.is_empty()
     }
 
-    /// The next part, which has the first of the lengths, and the rest with the other lengths.
-    /// It takes no memory and is never refused.
+    /// Takes the next part, which has the first of the lengths, and returns it with the rest. It allocates nothing and cannot
+    /// fail.
     ///
-    /// Once both loans have ended, the bytes are the part and the rest as they were left, joined.
-    /// The check's own proofs of a caller follow no loan out of a struct that is passed by value:
-    /// a caller whose contract names these bytes takes `Parts` apart and calls `split_at_mut`.
+    /// After both loans the bytes are the part and the rest as they were left, joined. Generated proofs of a caller follow no
+    /// loan out of a struct that is passed by value: a caller whose contract names these bytes splits them by `split_at_mut`.
     pub fn take(self) -> (&'a mut [u8], Parts<'a>)
         requires { 0 < length self.lengths.now }
         ensures* writes_back { sem 𝓛 (LendsPart self.entry result) }
@@ -51,7 +50,7 @@ impl<'a> Parts<'a> {
     }
 }
 
-/// The first length, and the others. There must be one.
+/// Returns the first length, and the others. There must be one.
 fn split_lengths<'a>(lengths: &'a [u32]) -> (u32, &'a [u32])
     requires { 0 < length lengths.now }
     ensures { lengths.now ≡ result.0 ∷ result.1.now }
@@ -59,7 +58,7 @@ fn split_lengths<'a>(lengths: &'a [u32]) -> (u32, &'a [u32])
     (lengths[0], &lengths[1..])
 }
 
-/// The first `at` bytes, and the others. There must be as many.
+/// Returns the first `at` bytes, and the others. There must be as many.
 fn cut<'a>(bytes: &'a mut [u8], at: u32) -> (&'a mut [u8], &'a mut [u8])
     requires { at ≤ length bytes.old }
     ensures* writes_back { sem 𝓛 (LendsBoth (Array u8 0) (Array u8 0) (Array u8 0) bytes.entry result ◌++◌) }

@@ -1,7 +1,8 @@
 -- The pairs of a block.
-use Rattle.std.proofs.Common.{◌≡◌, ℕ, ◌+◌, ◌-◌, ◌<◌, ◌≤◌, Bool, true, false, List, length, min, get_or, refl, sym, ap, ◌∙◌, arith, subst}
+use Rattle.std.proofs.Common.{◌≡◌, ℕ, ◌+◌, ◌-◌, ◌<◌, ◌≤◌, ◌==◌, if◌then◌else◌, Bool, true, false, List, length, min, get_or, refl, sym, ap, ◌∙◌, arith, subst}
 use Rattle.std.proofs.lemmas.Bool.Decides.{nat_tests}
 use Rattle.std.proofs.lemmas.List.FromFn.{get_or-map-range_with_len, length-map-range_with_len}
+use Rattle.hc_registers.specs.Fields.{word_at}
 use Rattle.hc_machine.specs.declared.fmmu.Fmmu.{Fmmu}
 use Rattle.hc_machine.specs.Fmmus.{fmmu_block_at, end_logical, first_logical, first_memory, fmmu_of, fmmus_of, idle, is_active, is_read, is_in_run, is_write_fmmu}
 use Rattle.hc_machine.specs.Laws.{FmmusAreTheirPairs, IsPair, Pairs, Reads, FmmuWrites}
@@ -24,16 +25,27 @@ pub fmmu-idle : (block : List ℕ) → is_active block ≡ false → idle ≡ fm
 unfolding fmmu_of
 fmmu-idle block off = rw off refl
 
--- the numbers of a block, over plain variables: a is the first logical bit, e the end before it is cut, b the first memory bit before it is cut
-into : (x m a e b : ℕ) → a ≤ x → x + 8 ≤ e → m + a ≡ x + b → m < 98304 → (a ≤ x) × (x < a + min (e + 1 - 8 - a) (98304 - min b 98304)) × (m ≡ min b 98304 + (x - a))
+-- a bit before the end of a block, over plain variables: n is the length, l the stop bit of the last byte
+before-end : (b : Bool) (n l x : ℕ) → (n == 0) ≡ b → 1 ≤ n → x ≤ l → x < (if b then 0 else l + 1)
+before-end true n l x none some high =
+    let empty : n ≡ 0 = grind (arith, nat_tests) in
+    absurd (omega arith)
+before-end false n l x e some high = omega arith
+
+end-after : (b : Bool) (n l x : ℕ) → (n == 0) ≡ b → x < (if b then 0 else l + 1) → (1 ≤ n) × (x ≤ l)
+end-after true n l x none high = absurd (omega arith)
+end-after false n l x e high = (grind (arith, nat_tests), omega arith)
+
+-- the numbers of a block: a is the first logical bit, e the end before it is cut, b the first memory bit before it is cut
+into : (x m a e b : ℕ) → a ≤ x → x < e → m + a ≡ x + b → m < 98304 → (a ≤ x) × (x < a + min (e - a) (98304 - min b 98304)) × (m ≡ min b 98304 + (x - a))
 into x m a e b low high same inside = (low, omega arith, omega arith)
 
-back : (x m a e b : ℕ) → a ≤ x → x < a + min (e + 1 - 8 - a) (98304 - min b 98304) → m ≡ min b 98304 + (x - a) → (x + 8 ≤ e) × (m + a ≡ x + b) × (m < 98304)
+back : (x m a e b : ℕ) → a ≤ x → x < a + min (e - a) (98304 - min b 98304) → m ≡ min b 98304 + (x - a) → (x < e) × (m + a ≡ x + b) × (m < 98304)
 back x m a e b low high same = (omega arith, omega arith, omega arith)
 
 pairs-of-block : (block : List ℕ) (x m : ℕ) → IsPair block x m → Pairs (fmmu_of block) x m
 pairs-of-block block x m pair =
-    subst (λ (f : Fmmu). Pairs f x m) (fmmu-active block pair.active) (into x m _ _ _ pair.first pair.last pair.paired pair.inside)
+    subst (λ (f : Fmmu). Pairs f x m) (fmmu-active block pair.active) (into x m _ (end_logical block) _ pair.first (before-end (word_at block 4 == 0) _ _ x refl pair.some pair.last) pair.paired pair.inside)
 
 block-of-pairs : (b : Bool) (block : List ℕ) (x m : ℕ) → is_active block ≡ b → Pairs (fmmu_of block) x m → IsPair block x m
 block-of-pairs false block x m off pairs =
@@ -41,8 +53,9 @@ block-of-pairs false block x m off pairs =
     absurd (omega (arith, none.0, none.1))
 block-of-pairs true block x m on pairs =
     let some : Pairs (active-fmmu block) x m = subst (λ (f : Fmmu). Pairs f x m) (sym (fmmu-active block on)) pairs in
-    let there = back x m _ _ _ some.0 some.1 some.2 in
-    record { active = on; first = some.0; last = there.0; paired = there.1; inside = there.2 }
+    let there = back x m _ (end_logical block) _ some.0 some.1 some.2 in
+    let end = end-after (word_at block 4 == 0) (word_at block 4) _ x refl there.0 in
+    record { active = on; first = some.0; some = end.0; last = end.1; paired = there.1; inside = there.2 }
 
 pub pairs-are-blocks : FmmusAreTheirPairs
 pairs-are-blocks block x m = (pairs-of-block block x m, block-of-pairs (is_active block) block x m refl)

@@ -10,7 +10,7 @@ use Rattle.hc_machine.specs.declared.limits.TheConstants.{ACTIVATE_BYTE, FMMUS, 
 abbrev pub fmmu_block_at : List ℕ → ℕ → List ℕ
 fmmu_block_at memory i = slice_range memory (FMMU_BLOCKS + FMMU_BLOCK_BYTES * i) (FMMU_BLOCKS + FMMU_BLOCK_BYTES * i + FMMU_BLOCK_BYTES)
 
--- a block has the logical start address in its bytes 0 to 3, the length in bytes in 4 and 5, the logical start and stop bit in 6 and 7, the physical start address in 8 and 9 and its start bit in 10, the type in 11 and the activation in 12: bit 0 of it
+-- bit 0 of the activation switches an FMMU on (`FmmuFields` in hc_registers lists the fields of a block)
 abbrev pub is_active : List ℕ → Bool
 is_active block = slice_index block ACTIVATE_BYTE % 2 == 1
 
@@ -22,13 +22,13 @@ is_read block = slice_index block 11 % 2 == 1
 abbrev pub is_write_fmmu : List ℕ → Bool
 is_write_fmmu block = slice_index block 11 / 2 % 2 == 1
 
--- the first logical bit, and the one after the last: the stop bit is in the last of `length` bytes, and the numbers don't wrap. Of the bit fields the low three bits count. The difference stops at 0, so that a length of 0 at address 0 pairs nothing
+-- the first logical bit: the start bit of the first byte. Of a bit field the low three bits count, and addresses do not wrap
 abbrev pub first_logical : List ℕ → ℕ
 first_logical block = 8 * long_at block 0 + slice_index block 6 % 8
 
--- the logical bit after the last one of a block
+-- the logical bit after the stop bit of the last byte; 0 if the block has no bytes
 abbrev pub end_logical : List ℕ → ℕ
-end_logical block = 8 * (long_at block 0 + word_at block 4) + slice_index block 7 % 8 + 1 - 8
+end_logical block = if word_at block 4 == 0 then 0 else 8 * (long_at block 0 + word_at block 4 - 1) + slice_index block 7 % 8 + 1
 
 -- the memory bit that is paired with the first logical bit, at most the end of memory
 abbrev pub first_memory : List ℕ → ℕ

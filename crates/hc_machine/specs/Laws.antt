@@ -1,5 +1,5 @@
 -- What follows from the definitions: what an FMMU block pairs, what a logical datagram reads and writes, and what no frame changes.
-use Rattle.std.specs.Prelude.{◌≡◌, All, ℕ, ◌+◌, ◌*◌, ◌%◌, ◌<◌, ◌≤◌, ◌↔◌, ◌⊎◌, true, List, is_none, length, slice_index}
+use Rattle.std.specs.Prelude.{◌≡◌, All, ℕ, ◌+◌, ◌-◌, ◌*◌, ◌%◌, ◌<◌, ◌≤◌, ◌↔◌, ◌⊎◌, true, List, is_none, length, slice_index}
 use Rattle.hc_bits.specs.Bits.{AreBytes, bit_of}
 use Rattle.hc_frames.specs.declared.limits.TheConstants.{ALIAS_REGISTER}
 use Rattle.hc_frames.specs.Arrived.{fault_in}
@@ -14,11 +14,12 @@ use Rattle.hc_machine.specs.Fmmus.{fmmu_block_at, fmmu_of, is_active, is_read, i
 use Rattle.hc_machine.specs.Frames.{all_served, frame_after, memory_after}
 use Rattle.hc_machine.specs.Logical.{logical_count, logical_data, logical_memory, memory_bit}
 
--- logical bit x and memory bit m are a pair of an FMMU block: it is active; x lies from bit `8 * start + start bit` to bit `8 * (start + length - 1) + stop bit`, both included; m is as far from bit `8 * physical start + start bit` as x is from the first; and m lies in memory
+-- logical bit x and memory bit m are a pair of an FMMU block: the block is active and has a byte; x is from the start bit of its first byte to the stop bit of its last byte; m is as far from the physical start bit as x is from the first logical bit; and m is in memory
 pub record IsPair (block : List ℕ) (x m : ℕ) : Type 0 where
   pub active : is_active block ≡ true
   pub first : 8 * long_at block 0 + slice_index block 6 % 8 ≤ x
-  pub last : x + 8 ≤ 8 * (long_at block 0 + word_at block 4) + slice_index block 7 % 8
+  pub some : 1 ≤ word_at block 4
+  pub last : x ≤ 8 * (long_at block 0 + word_at block 4 - 1) + slice_index block 7 % 8
   pub paired : m + (8 * long_at block 0 + slice_index block 6 % 8) ≡ x + (8 * word_at block 8 + slice_index block 10 % 8)
   pub inside : m < MEMORY_BITS
 

@@ -1,7 +1,7 @@
 //! An FMMU as its pairs of logical bits and memory bits (ETG.1000.4, 6.6).
 
 ghost use Rattle.std.specs.Prelude.{◌≡◌, ◌+◌, ◌^◌, ◌<◌, ◌≤◌, [], ◌∷◌, ◌++◌, cond, filter, length, All, true};
-ghost use Rattle.hc_machine.specs.Fmmus.{fmmu_block_at, fmmu_of, fmmus_of, is_active, IsInMemory};
+ghost use Rattle.hc_machine.specs.Fmmus.{end_logical, fmmu_block_at, fmmu_of, fmmus_of, is_active, IsInMemory};
 ghost use Rattle.hc_machine.specs.Logical.{fmmu_meets};
 
 use crate::limits::{ACTIVATE_BYTE, FMMUS, MEMORY_BITS, MEMORY_BYTES};
@@ -39,6 +39,17 @@ fn block_at(memory: &[u8], i: usize) -> [u8; 16]
     block
 }
 
+/// The logical bit after the stop bit of a block's last byte; 0 if the block has no bytes.
+fn end_logical(block: &[u8; 16]) -> usize
+    ensures { result ≡ end_logical block.now }
+{
+    let start = logical_start_address(block) as usize;
+    match usize::from(length(block)) {
+        0 => 0,
+        bytes => 8 * (start + bytes - 1) + usize::from(logical_stop_bit(block) % 8) + 1,
+    }
+}
+
 /// The FMMU of a block that is active.
 fn fmmu_of(block: &[u8; 16]) -> Fmmu
     requires { is_active block.now ≡ true }
@@ -47,8 +58,7 @@ fn fmmu_of(block: &[u8; 16]) -> Fmmu
 {
     let start = logical_start_address(block) as usize;
     let logical = 8 * start + usize::from(logical_start_bit(block) % 8);
-    let stop = 8 * (start + usize::from(length(block))) + usize::from(logical_stop_bit(block) % 8);
-    let end = (stop + 1).saturating_sub(8);
+    let end = end_logical(block);
     let first = 8 * usize::from(physical_start_address(block))
         + usize::from(physical_start_bit(block) % 8);
     let memory = first.min(MEMORY_BITS);

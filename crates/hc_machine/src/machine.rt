@@ -33,7 +33,7 @@ impl Model for SlaveMachine {
     ghost invariant = { λ machine. (vec_len machine.memory ≡ MEMORY_BYTES) × (vec_len machine.spare ≡ MAX_DATA) };
 }
 
-/// So many zeros.
+/// Returns `n` zeros.
 fn zeros(alloc: Global, n: usize) -> Result<Vec<u8>, AllocError>
     ensures items { IfOk result (λ bytes. bytes.items ≡ zeros n) }
     ensures size { IfOk result (λ bytes. vec_len bytes ≡ n) }

@@ -1,12 +1,12 @@
--- What a mailbox carries: contents of one kind.
+-- The contents that a mailbox carries, all of one kind.
 use Rattle.std.specs.Prelude.{ℕ, ◌≡◌, ◌%◌, ◌^◌, List, [], ◌∷◌, ◌++◌, length}
 use Rattle.hc_mail.specs.declared.letter.Letter.{Letter}
 
--- the most bytes and the most datagrams that a content has room for
+-- the capacity of a content: the most bytes and the most datagrams
 abbrev pub Room : Type 0
 Room = ℕ × ℕ
 
--- a kind of contents: the room of each, and the blank one with a room
+-- a kind of contents: the capacity of each, and the blank one with a capacity
 pub record Kind (X : Type 0) : Type 0 where
   pub room : X → Room
   pub blank : Room → X
@@ -28,6 +28,6 @@ StartsWith {X} whole front = (rest : List X) × (whole ≡ front ++ rest)
 abbrev pub newest : {X : Type 0} → Kind X → Room → List X → X
 newest kind room sent = last_after (kind.blank room) sent
 
--- the newest content with its number, which is the count of those that were sent
+-- the newest content with its number, which is the count of the sent ones
 abbrev pub newest_letter : {X : Type 0} → Kind X → Room → List X → Letter X
 newest_letter kind room sent = record { number = counted (length sent); content = newest kind room sent }

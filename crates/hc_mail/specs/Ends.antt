@@ -1,4 +1,4 @@
--- What contracts see of the two ends and of a note.
+-- The two ends of a mailbox and their notes, as contracts see them.
 use Rattle.std.specs.Prelude.{ℕ, ◌<◌, List, [], ◌∷◌, ◌≡◌}
 use Rattle.atomic_table.specs.Seated.{TableId}
 use Rattle.atomic_table.specs.declared.shared.Seat.{Seat}
@@ -14,7 +14,7 @@ use Rattle.std.specs.Prelude.{length}
 abbrev pub Place : Type 0 → Type 0
 Place X = Seat (Letter X) (Insight X)
 
--- the contents that it sent, or that had been sent when it looked
+-- the contents that an end sent, or that had been sent when it looked
 abbrev pub seen : {X : Type 0} → Place X → List X
 seen place = place.me.0.seen
 
@@ -22,16 +22,17 @@ seen place = place.me.0.seen
 abbrev pub reported : {X : Type 0} → Place X → List X
 reported place = place.me.0.reported
 
--- an end stays at its table, with what was reported to it
+-- an end stays at its table, and knows what was reported to it
 abbrev pub StaysAtTable : {X : Type 0} → Place X → Place X → Type 0
 StaysAtTable place place' = (place'.table_id ≡ place.table_id) × (reported place' ≡ reported place)
 
 module _ {X : Type 0} (kind : Kind X) where
-  -- the place in a role, with one slot in hand, and what lies there
+  -- the place in a role, with one slot in hand and its letter
   abbrev pub posed : Place X → Role → ℕ → Place X
   posed place role slot = record place { me = (insight role (seen place) (reported place), (slot, in_hand kind place.me.1) ∷ []) }
 
-  -- it is at this table, with its own slot in hand, where a letter with this room lies; it counts what it sent
+  -- the end is at this table, with its own slot in hand, which holds a letter of this capacity; it counts the letters that it
+  -- sent
   pub record IsSender (place : Place X) (slot count : ℕ) (table : TableId) (room : Room) : Type 0 where
     pub seated : place.table_id ≡ table
     pub sized : IsSized table
@@ -40,7 +41,7 @@ module _ {X : Type 0} (kind : Kind X) where
     pub counts : count ≡ counted (length (seen place))
     pub sends : place ≡ posed place (Sends slot) slot
 
-  -- it is at this table, with its own slot in hand; its letter has this room, and is the newest of those that it saw
+  -- the end is at this table, with its own slot in hand; its letter has this capacity, and is the newest of those that it saw
   pub record IsReceiver (place : Place X) (slot : ℕ) (shown : Letter X) (table : TableId) (room : Room) : Type 0 where
     pub seated : place.table_id ≡ table
     pub sized : IsSized table
@@ -58,7 +59,7 @@ pub record SenderEnd (X : Type 0) : Type 0 where
   pub place : Place X
   pub own : X
 
--- the receiver: its place at the table, without the slot in hand, and the mailbox's room
+-- the receiver: its place at the table, without the slot in hand, and the mailbox's capacity
 pub record ReceiverEnd (X : Type 0) : Type 0 where
   pub place : Place X
   pub room : Room

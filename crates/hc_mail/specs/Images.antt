@@ -1,10 +1,11 @@
--- The images of a task, as a mailbox carries them.
+-- The images of a task, as contents of a mailbox.
 use Rattle.std.specs.Prelude.{ℕ, false, List, [], ◌∷◌, ◌++◌, Option, None, Some, replicate}
 use Rattle.hc_mail.specs.Contents.{Kind, Room}
 use Rattle.hc_mail.specs.declared.image.ImageHead.{ImageHead}
 use Rattle.hc_mail.specs.declared.image.LineState.TheVariants as line
 
--- the image of a task: its head, what the task reads of its datagrams, of each datagram the serial that its data answer (none where it has no data), the task's outputs, and the room
+-- the image of a task: its head, the data of its datagrams, the serial that the data of each answer (none if it has no data),
+-- the task's outputs, and the capacity
 pub record Image : Type 0 where
   pub head : ImageHead
   pub bytes : List ℕ
@@ -20,7 +21,7 @@ begun head room = record { head = head; bytes = []; serials = []; outputs = []; 
 abbrev pub blank_head : ImageHead
 blank_head = record { epoch = 0; task_epoch = 0; first_serial = 0; taken = 0; is_refused = false; line = line.Open }
 
--- what a task sees before an image was sent
+-- the blank image, which a task sees before an image was sent
 abbrev pub blank_image : Room → Image
 blank_image = begun blank_head
 
@@ -28,11 +29,11 @@ blank_image = begun blank_head
 abbrev pub image_kind : Kind Image
 image_kind = record { room = λ image. image.room; blank = blank_image }
 
--- an image with one datagram more, whose data answer the sending with a serial
+-- an image with one more datagram, whose data answer the sending with a serial
 abbrev pub with_data : List ℕ → ℕ → Image → Image
 with_data bytes serial image = record image { bytes = image.bytes ++ bytes; serials = image.serials ++ Some serial ∷ [] }
 
--- an image with one datagram more, which has no data: so many zeros
+-- an image with one more datagram, which has no data: `size` zeros
 abbrev pub with_zeros : ℕ → Image → Image
 with_zeros size image = record image { bytes = image.bytes ++ replicate size 0; serials = image.serials ++ None ∷ [] }
 

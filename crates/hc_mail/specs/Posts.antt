@@ -1,8 +1,8 @@
--- The posts of a task, as a mailbox carries them.
+-- The posts of a task, as contents of a mailbox.
 use Rattle.std.specs.Prelude.{ℕ, List, []}
 use Rattle.hc_mail.specs.Contents.{Kind, Room}
 
--- the outputs that a task posts for an epoch, and the most bytes that there is room for
+-- the outputs that a task posts for an epoch, and the capacity in bytes
 pub record MailedPost : Type 0 where
   pub epoch : ℕ
   pub bytes : List ℕ

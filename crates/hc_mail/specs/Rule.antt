@@ -1,4 +1,4 @@
--- The rule of the table, and what each step gives.
+-- The rule of the table, and the result of each step.
 use Rattle.std.specs.Prelude.{◌≡◌, ◌≢◌, ℕ, ◌+◌, ◌*◌, ◌%◌, ◌<◌, ◌≤◌, List, [], ◌∷◌, ◌++◌, length, slice_index}
 use mathlib.Core.Option.{some}
 use mathlib.Core.Option as maybe
@@ -11,19 +11,20 @@ use Rattle.hc_mail.specs.declared.table.Role.{Role}
 use Rattle.hc_mail.specs.declared.table.Role.TheVariants.{Rests, Opens, Enters, Sends, Waits, Looks, Takes}
 use Rattle.hc_mail.specs.Contents.{Kind, Room, StartsWith, counted, newest, newest_letter}
 
--- what a seat knows
+-- the knowledge of a seat
 abbrev pub insight : {X : Type 0} → Role → List X → List X → Insight X
 insight role seen reported = record { role = role; marker = record {}; seen = seen; reported = reported }
 
--- what the first seat knows
+-- the knowledge of the first seat
 abbrev pub opener : {X : Type 0} → Insight X
 opener = insight Opens [] []
 
--- the slots; those that are at home, with what they hold
+-- the slots; those at home, with their letters
 abbrev pub HomeSlots : Type 0 → Type 0
 HomeSlots X = List (maybe.Option (Letter X))
 
--- where everything is: all contents that were sent, the seats of the two ends, the slots of the sender, of the middle and of the receiver, 1 where a letter was sent since the last look, and the letter in the middle
+-- the state of the table: all contents that were sent, the seats of the two ends, the slots of the sender, of the middle and of
+-- the receiver, 1 if a letter was sent since the last look, and the letter in the middle
 pub record Layout (X : Type 0) : Type 0 where
   pub all : List X
   pub sender : ℕ
@@ -35,11 +36,11 @@ pub record Layout (X : Type 0) : Type 0 where
   pub letter : Letter X
 
 module _ {X : Type 0} (p : Layout X) (slots : HomeSlots X) (seat : ℕ) where
-  -- it sent all contents
+  -- the seat is the sender's: it sent all contents
   abbrev pub SentAll : List X → Type 0
   SentAll seen = (seat ≡ p.sender) × (seen ≡ p.all)
 
-  -- it saw all contents, unless the middle letter is newer: then it saw fewer
+  -- the seat is the receiver's: it saw all contents, or fewer if the middle letter is newer
   abbrev pub SawAll : List X → Type 0
   SawAll seen = (seat ≡ p.receiver) × (p.newer ≡ 0 → seen ≡ p.all) × (p.newer ≡ 1 → length seen < length p.all)
 
@@ -47,7 +48,7 @@ module _ {X : Type 0} (p : Layout X) (slots : HomeSlots X) (seat : ℕ) where
   abbrev pub IsHome : ℕ → Type 0
   IsHome slot = (letter : Letter X) × (get_elem? slots slot ≡ some (some letter))
 
-  -- what is true of a seat in its role
+  -- the invariant of a seat in its role
   abbrev pub Plays : Role → List X → Type 0
   Plays Rests seen = Unit {0}
   Plays Opens seen = SentAll seen × SawAll seen × IsHome 0 × IsHome 2 × (p.own ≡ 0) × (p.shown ≡ 2)
@@ -57,11 +58,13 @@ module _ {X : Type 0} (p : Layout X) (slots : HomeSlots X) (seat : ℕ) where
   Plays (Looks slot) seen = SawAll seen × (slot ≡ p.shown)
   Plays (Takes slot) seen = SawAll seen × (slot ≡ p.shown) × (p.newer ≡ 1)
 
--- a content has as much room as the mailbox's blank one
+-- a content has the capacity of the mailbox's blank one
 abbrev pub IsRoomy : {X : Type 0} → Kind X → Room → X → Type 0
 IsRoomy kind room content = kind.room content ≡ kind.room (kind.blank room)
 
--- the three slots are apart, and the word gives the middle one; its letter has the mailbox's room, and is the newest with its number if it was sent since the last look; what each seat saw, or a note named to it, begins the list of all contents
+-- the three slots differ, and the word gives the middle one; its letter has the mailbox's capacity, and is the newest with its
+-- number if it was sent since the last look; the list that each seat saw, or a note named to it, begins the list of all
+-- contents
 pub record IsMail {X : Type 0} (kind : Kind X) (room : Room) (s : State (Letter X) (Insight X)) : Type 0 where
   pub layout : Layout X
   pub one_word : length s.words ≡ 1
@@ -78,7 +81,7 @@ pub record IsMail {X : Type 0} (kind : Kind X) (room : Room) (s : State (Letter 
 abbrev pub IsSized : TableId → Type 0
 IsSized table = (table.words ≡ 1) × (table.slots ≡ 3)
 
--- what a seat knows, and the slots in its hand
+-- the knowledge of a seat, and the slots in its hand
 abbrev pub Seated : Type 0 → Type 0
 Seated X = Me (Letter X) (Insight X)
 
@@ -86,7 +89,7 @@ Seated X = Me (Letter X) (Insight X)
 abbrev pub Stepped : Type 0 → Type 0
 Stepped X = Step (Letter X)
 
--- the letter in hand; a blank one of number 0 where there is none
+-- the letter in hand; a blank one of number 0 if there is none
 abbrev pub in_hand : {X : Type 0} → Kind X → List (ℕ × Letter X) → Letter X
 in_hand kind [] = newest_letter kind (0, 0) []
 in_hand kind (first ∷ _) = first.1
@@ -96,24 +99,24 @@ abbrev pub slot_in : {X : Type 0} → List (ℕ × Letter X) → ℕ
 slot_in [] = 0
 slot_in (first ∷ _) = first.0
 
--- the sender takes its slot, with what lies there
+-- the sender takes its slot with its letter
 abbrev pub entered : {X : Type 0} → Stepped X → Seated X → ℕ → Seated X → Type 0
 entered {X} _ old _ new = (letter : Letter X) × (new ≡ (insight (Sends 0) old.0.seen old.0.reported, (0, letter) ∷ []))
 
--- the receiver takes its slot, with what lies there
+-- the receiver takes its slot with its letter
 abbrev pub waited : {X : Type 0} → Stepped X → Seated X → ℕ → Seated X → Type 0
 waited {X} _ old _ new = (letter : Letter X) × (new ≡ (insight (Looks 2) old.0.seen old.0.reported, (2, letter) ∷ []))
 
--- the middle letter is no newer, and all that was sent was seen; or it is to be taken
+-- either the middle letter is no newer, and all that was sent was seen; or it is to be taken
 abbrev pub found : {X : Type 0} → Stepped X → Seated X → ℕ → Seated X → Type 0
 found _ old word new = (word < 4 → (new ≡ old) × StartsWith old.0.seen old.0.reported) × (4 ≤ word → new ≡ (insight (Takes (slot_in old.1)) old.0.seen old.0.reported, old.1))
 
--- what a note named to the sender begins what it sent
+-- the list that a note named to the sender begins the list that it sent
 abbrev pub confirmed : {X : Type 0} → Stepped X → Seated X → ℕ → Seated X → Type 0
 confirmed _ old _ new = (new ≡ old) × StartsWith old.0.seen old.0.reported
 
 module _ {X : Type 0} (kind : Kind X) where
-  -- the letter in hand was sent; the middle slot is now the sender's, with a content of the same room
+  -- the letter in hand was sent; the middle slot is now the sender's, with a content of the same capacity
   abbrev pub letter_sent : Stepped X → Seated X → ℕ → Seated X → Type 0
   letter_sent _ old word new = (letter : Letter X) × (kind.room letter.content ≡ kind.room (in_hand kind old.1).content)
       × (new ≡ (insight (Sends (word % 4)) (old.0.seen ++ (in_hand kind old.1).content ∷ []) old.0.reported, (word % 4, letter) ∷ []))

@@ -1,4 +1,4 @@
-//! What lies in a box, made and lent.
+//! The content of a box, made and lent.
 ghost use Rattle.std.specs.Prelude.{◌≡◌, IfOk};
 ghost use Rattle.std.specs.Borrow.{Lends, sem};
 ghost use Rattle.hc_mail.specs.contracts.letter.ContentBox.{the_row};
@@ -8,14 +8,14 @@ use crate::letter::ContentBox;
 use std::alloc::{AllocError, Global};
 
 impl<T> ContentBox<T> {
-    /// The content.
+    /// Lends the content.
     pub(crate) fn content(&self) -> &T
         ensures { result.now ≡ self.now }
     {
         &self.own
     }
 
-    /// The content, lent for writing.
+    /// Lends the content for writing.
     pub(crate) fn content_mut(&mut self) -> &mut T
         ensures* lent { sem 𝓛 (Lends (the_row T.row) T.row self.entry result (λ left. left)) }
         ensures content { result.now ≡ self.old }
@@ -24,7 +24,7 @@ impl<T> ContentBox<T> {
     }
 }
 
-/// A blank content in a box. `AllocError` if an allocation fails.
+/// Returns a blank content in a box. `AllocError` if an allocation fails.
 pub(crate) fn blank_box<T: Content>(
     alloc: Global,
     bytes: usize,

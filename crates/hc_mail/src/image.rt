@@ -1,4 +1,4 @@
-//! The image of a task, as a mailbox carries it.
+//! The image of a task, as a content of a mailbox.
 ghost use Rattle.std.specs.Prelude.{◌≡◌, ◌≤◌, ◌<◌, ◌+◌, ◌++◌, length, replicate, take};
 ghost use Rattle.hc_mail.specs.Images.{begun, blank_head, with_data, with_outputs, with_zeros};
 
@@ -6,7 +6,7 @@ use crate::content::Content;
 use std::alloc::{AllocError, Global};
 use std::marker::Model;
 
-/// What had become of the line and of the seat when an image was shown.
+/// The state of the line and of the seat when an image was shown.
 #[derive(Clone, Copy)]
 pub enum LineState {
     /// The line is open.
@@ -17,25 +17,25 @@ pub enum LineState {
     Replaced,
 }
 
-/// What an image says beside its data.
+/// The head of an image: all but its data.
 #[derive(Clone, Copy)]
 pub struct ImageHead {
     /// The line's epoch when the image was made.
     pub epoch: u32,
-    /// The task's epoch when the image was made: the epoch of the last edit that had changed the task, 0 if none had.
+    /// The epoch of the last edit that had changed the task when the image was made, 0 if none had.
     pub task_epoch: u32,
     /// The first serial of the task's last sending, 0 before one.
     pub first_serial: u64,
-    /// The number of the seat's post that was taken last, 0 before one.
+    /// The number of the seat's post that was taken last, 0 before the first.
     pub taken: u64,
     /// Whether the core refused that post.
     pub is_refused: bool,
-    /// What had become of the line and of the seat.
+    /// The state of the line and of the seat.
     pub line: LineState,
 }
 
 impl ImageHead {
-    /// The head of a blank image.
+    /// Returns the head of a blank image.
     pub fn blank() -> ImageHead
         ensures { result ≡ blank_head }
     {
@@ -50,8 +50,8 @@ impl ImageHead {
     }
 }
 
-/// The image of a task: its head, what the task reads of its datagrams, one after another, of each datagram the serial of the
-/// sending that its data answer, and the task's outputs. It has room from the start for the most that it may hold.
+/// The image of a task: its head, the data of its datagrams one after another, the serial that the data of each answer, and the
+/// task's outputs. Its memory suffices from the start for the most that it may hold.
 #[derive(Drop)]
 pub struct TaskImage {
     head: ImageHead,
@@ -61,7 +61,7 @@ pub struct TaskImage {
     output_memory: Vec<u8>,
     output_size: usize,
     serials: Vec<Option<u64>>,
-    // the room in datagrams
+    // the capacity in datagrams
     most_datagrams: usize,
 }
 
@@ -76,7 +76,7 @@ impl Model for TaskImage {
     ghost invariant = { λ image. (image.size ≤ length image.memory.items) × (image.output_size ≤ length image.output_memory.items) × (length image.output_memory.items ≡ length image.memory.items) × (vec_len image.serials ≤ image.most_datagrams) × (image.most_datagrams ≤ vec_capacity image.serials) };
 }
 
-/// Puts bytes at a place of a slice.
+/// Writes bytes at a place of a slice.
 pub(crate) fn put(out: &mut [u8], at: usize, bytes: &[u8])
     requires { at + length bytes.now ≤ length out.old }
     ensures put { take (at + length bytes.now) out.new ≡ take at out.old ++ bytes.now }
@@ -85,7 +85,7 @@ pub(crate) fn put(out: &mut [u8], at: usize, bytes: &[u8])
     out[at..at + bytes.len()].copy_from_slice(bytes);
 }
 
-/// Puts so many zeros at a place of a slice.
+/// Writes `size` zeros at a place of a slice.
 fn put_zeros(out: &mut [u8], at: usize, size: usize)
     requires { at + size ≤ length out.old }
     ensures put { take (at + size) out.new ≡ take at out.old ++ replicate size 0 }
@@ -95,14 +95,14 @@ fn put_zeros(out: &mut [u8], at: usize, size: usize)
 }
 
 impl TaskImage {
-    /// What the image says beside its data.
+    /// Returns the head of the image.
     pub fn head(&self) -> ImageHead
         ensures { result ≡ self.now.head }
     {
         self.head
     }
 
-    /// What the task reads of its datagrams, one after another: as many bytes of each as it has, zeros where it has no data.
+    /// Returns the data of the datagrams, one after another, each with its own length; zeros for one without data.
     pub fn bytes(&self) -> &[u8]
         ensures bytes { result.now ≡ self.now.bytes }
         ensures most { length result.now ≤ self.now.room.0 }
@@ -110,7 +110,7 @@ impl TaskImage {
         &self.memory[..self.size]
     }
 
-    /// Of each datagram the serial of the sending that its data answer; none where it has no data.
+    /// Returns for each datagram the serial of the sending that its data answer, or `None` if it has no data.
     pub fn serials(&self) -> &[Option<u64>]
         ensures serials { result.now ≡ self.now.serials }
         ensures most { length result.now ≤ self.now.room.1 }
@@ -118,7 +118,7 @@ impl TaskImage {
         self.serials.as_slice()
     }
 
-    /// The task's outputs.
+    /// Returns the task's outputs.
     pub fn outputs(&self) -> &[u8]
         ensures outputs { result.now ≡ self.now.outputs }
         ensures most { length result.now ≤ self.now.room.0 }
@@ -126,7 +126,7 @@ impl TaskImage {
         &self.output_memory[..self.output_size]
     }
 
-    /// The image becomes one with this head, without a datagram.
+    /// Begins the image anew with this head, without a datagram.
     pub(crate) fn begin(&mut self, head: ImageHead)
         ensures { self.new ≡ begun head self.old.room }
     {
@@ -136,7 +136,7 @@ impl TaskImage {
         self.serials.clear();
     }
 
-    /// The next datagram has these data, which answer the sending with this serial.
+    /// Adds a datagram with these data, which answer the sending with this serial. The capacity must suffice.
     pub(crate) fn add(&mut self, bytes: &[u8], serial: u64)
         requires bytes { length self.old.bytes + length bytes.now ≤ self.old.room.0 }
         requires datagrams { length self.old.serials < self.old.room.1 }
@@ -147,7 +147,7 @@ impl TaskImage {
         self.serials.push_reserved(Some(serial));
     }
 
-    /// The next datagram, of so many bytes, has no data: they are zeros.
+    /// Adds a datagram of `size` bytes without data: they are zeros. The capacity must suffice.
     pub(crate) fn add_zeros(&mut self, size: usize)
         requires bytes { length self.old.bytes + size ≤ self.old.room.0 }
         requires datagrams { length self.old.serials < self.old.room.1 }
@@ -158,7 +158,7 @@ impl TaskImage {
         self.serials.push_reserved(None);
     }
 
-    /// The task has these outputs after those that the image has.
+    /// Adds outputs of the task after those that the image has. The capacity must suffice.
     pub(crate) fn add_outputs(&mut self, outputs: &[u8])
         requires { length self.old.outputs + length outputs.now ≤ self.old.room.0 }
         ensures { self.new ≡ with_outputs outputs.now self.old }

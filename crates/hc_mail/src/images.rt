@@ -1,4 +1,5 @@
-//! A sender of images writes the next image: it is begun, gets what the task's datagrams have and the task's outputs, and is sent.
+//! The writing of images by their sender: an image is begun, gets the data of the task's datagrams and the task's outputs, and
+//! is sent.
 ghost use Rattle.std.specs.Prelude.{◌≡◌, ◌≤◌, ◌<◌, ◌+◌, length};
 ghost use Rattle.hc_mail.specs.Images.{begun, with_data, with_outputs, with_zeros};
 
@@ -16,7 +17,7 @@ impl Sender<TaskImage> {
         image.begin(head);
     }
 
-    /// Adds a datagram with these data, which answer the sending with this serial. The image has room for them.
+    /// Adds a datagram with these data, which answer the sending with this serial. The image's capacity must suffice.
     pub fn add(&mut self, bytes: &[u8], serial: u64)
         requires bytes { length self.old.own.bytes + length bytes.now ≤ self.old.own.room.0 }
         requires datagrams { length self.old.own.serials < self.old.own.room.1 }
@@ -28,7 +29,7 @@ impl Sender<TaskImage> {
         image.add(bytes, serial);
     }
 
-    /// Adds a datagram of so many bytes without data: they are zeros. The image has room for them.
+    /// Adds a datagram of `size` bytes without data: they are zeros. The image's capacity must suffice.
     pub fn add_zeros(&mut self, size: usize)
         requires bytes { length self.old.own.bytes + size ≤ self.old.own.room.0 }
         requires datagrams { length self.old.own.serials < self.old.own.room.1 }
@@ -40,7 +41,7 @@ impl Sender<TaskImage> {
         image.add_zeros(size);
     }
 
-    /// Adds outputs of the task after those that the image has. The image has room for them.
+    /// Adds outputs of the task after those that the image has. The image's capacity must suffice.
     pub fn add_outputs(&mut self, outputs: &[u8])
         requires { length self.old.own.outputs + length outputs.now ≤ self.old.own.room.0 }
         ensures own { self.new.own ≡ with_outputs outputs.now self.old.own }

@@ -1,4 +1,4 @@
-//! A letter is what goes through a mailbox: a content in a box, with its number.
+//! Letters, which go through a mailbox: a content in a box, with its number.
 use std::marker::Model;
 
 /// A content in memory of its own: to hand it over moves a pointer, and none of its bytes. Contracts see the content.

@@ -19,3 +19,6 @@ pub mod receiver;
 pub mod sender;
 pub mod steps;
 pub mod table;
+
+pub use receiver::Receiver;
+pub use sender::Sender;

@@ -3,14 +3,14 @@ ghost use Rattle.std.specs.Prelude.{◌≡◌, []};
 
 use crate::table::Place;
 
-/// What one end has seen, for the other end to learn. It has no bytes at run time.
+/// The contents that one end has seen, for the other end to learn. It has no bytes at run time.
 #[derive(Drop)]
 pub struct Note<T> {
     pub(crate) place: Place<T>,
     ghost rests: { place.me.1 ≡ [] },
 }
 
-/// What may go to another thread is passed on.
+/// Passes on a value that may move to another thread.
 pub(crate) fn passed<E: Send>(end: E) -> E
     ensures { result ≡ end }
 {

@@ -1,4 +1,4 @@
-//! How a mailbox is opened.
+//! Opening of a mailbox.
 ghost use Rattle.std.specs.Prelude.{◌≡◌, [], IfOk};
 ghost use Rattle.std.specs.Arc.{arc_value};
 ghost use Rattle.hc_mail.specs.Rule.{IsSized, opener};
@@ -15,7 +15,7 @@ use atomic_table::Table;
 use std::alloc::{AllocError, Global};
 use std::sync::Arc;
 
-/// A blank letter with this room. `AllocError` if an allocation fails.
+/// Returns a blank letter with this capacity. `AllocError` if an allocation fails.
 fn blank_letter<T: Content>(
     alloc: Global,
     bytes: usize,
@@ -27,7 +27,7 @@ fn blank_letter<T: Content>(
     Ok(Letter { number: 0, content })
 }
 
-/// The table with a blank letter in the middle, and ones without room in the slots of the ends; and its first seat.
+/// Returns the table with a blank letter in the middle, and letters of capacity 0 in the slots of the ends; and its first seat.
 fn lay<T: Content>(
     alloc: Global,
     bytes: usize,
@@ -48,7 +48,7 @@ fn lay<T: Content>(
     }
 }
 
-/// Opens a mailbox for contents of at most so many bytes and datagrams. It allocates all the memory that the mailbox ever needs.
+/// Opens a mailbox for contents of a capacity in bytes and datagrams. It allocates all the memory that the mailbox ever needs.
 /// Both ends begin with a blank content. `AllocError` if an allocation fails.
 pub fn open<T: Content>(
     alloc: Global,

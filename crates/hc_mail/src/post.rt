@@ -1,4 +1,4 @@
-//! The post of a task, as a mailbox carries it.
+//! The post of a task, as a content of a mailbox.
 ghost use Rattle.std.specs.Prelude.{◌≡◌, ◌≤◌, IfOk, length};
 ghost use Rattle.hc_mail.specs.Posts.{mailed_post};
 
@@ -7,7 +7,7 @@ use crate::image::put;
 use std::alloc::{AllocError, Global};
 use std::marker::Model;
 
-/// The outputs that a task posts for an epoch. It has room from the start for the most that it may hold.
+/// The outputs that a task posts for an epoch. Its memory suffices from the start for the most that it may hold.
 #[derive(Drop)]
 pub struct TaskPost {
     epoch: u32,
@@ -28,14 +28,14 @@ impl Model for TaskPost {
 }
 
 impl TaskPost {
-    /// The epoch for which it was made.
+    /// Returns the epoch for which the post was made.
     pub fn epoch(&self) -> u32
         ensures { result ≡ self.now.epoch }
     {
         self.epoch
     }
 
-    /// The outputs.
+    /// Returns the outputs.
     pub fn bytes(&self) -> &[u8]
         ensures bytes { result.now ≡ self.now.bytes }
         ensures most { length result.now ≤ self.now.room }
@@ -43,7 +43,7 @@ impl TaskPost {
         &self.memory[..self.size]
     }
 
-    /// The post becomes one of these outputs for an epoch. It has room for them.
+    /// Makes it a post of these outputs for an epoch. The capacity must suffice.
     pub fn write(&mut self, epoch: u32, bytes: &[u8])
         requires { length bytes.now ≤ self.old.room }
         ensures { self.new ≡ mailed_post epoch bytes.now self.old.room }

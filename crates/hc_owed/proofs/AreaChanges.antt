@@ -8,7 +8,7 @@ use Rattle.hc_owed.specs.declared.area.Turn.{Turn}
 use Rattle.hc_owed.specs.Areas.{area_after}
 use Rattle.hc_owed.specs.ReadinessSteps.{changed_from}
 use Rattle.hc_owed.proofs.AreaPlaces.{changed-by}
-use Rattle.hc_owed.proofs.Lists.{length-changed}
+use Rattle.hc_plan.proofs.lemmas.Replaced.{length-changed}
 
 pub get-applied : {X : Type 0} (n : ℕ) (f : X → X) (x : X) (xs : List X) → slice_get xs n ≡ Some x → slice_get (changed_at n f xs) n ≡ Some (f x)
 get-applied n f x [] at = cc

@@ -24,7 +24,7 @@ use Rattle.hc_changes.proofs.lemmas.OneProject.{line-declared, one-index}
 use Rattle.hc_plan.proofs.lemmas.Differing.{there}
 use Rattle.hc_plan.proofs.lemmas.PlaceNames.{name-at}
 use Rattle.hc_owed.specs.Readiness.{area_slave, slot}
-use Rattle.hc_owed.proofs.Lists.{get-changed, get-other, is-map, length-changed}
+use Rattle.hc_plan.proofs.lemmas.Replaced.{get-changed, get-other, is-map, length-changed}
 
 -- lists over the first numbers
 

@@ -16,7 +16,7 @@ use Rattle.hc_owed.specs.TaskSets.{either_set, has_task, no_task}
 use Rattle.hc_owed.specs.Tally.{CanPut, Puts, Tallies}
 use Rattle.hc_owed.specs.Waiting.{AreCounted}
 use Rattle.hc_owed.proofs.JudgedAreas.{fmmu-written, pair-first, pair-second, register-written, sync_manager-written}
-use Rattle.hc_owed.proofs.Lists.{length-changed, set-changed}
+use Rattle.hc_plan.proofs.lemmas.Replaced.{length-changed, set-changed}
 use Rattle.hc_owed.proofs.TaskLists.{has-where}
 
 pub one-most : (b : Bool) → one b ≤ 1

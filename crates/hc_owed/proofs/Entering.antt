@@ -10,14 +10,14 @@ use Rattle.hc_records.specs.Edits.{absent, changed}
 use Rattle.hc_records.specs.Line.{State, groups_of}
 use Rattle.hc_records.specs.Project.{slaves_of}
 use Rattle.hc_records.proofs.lemmas.Projects.{project-few}
-use Rattle.hc_registers.specs.Blocks.{LineBlock, RegisterBlock}
+use Rattle.hc_registers.specs.Blocks.{LineBlock}
 use Rattle.hc_registers.specs.RankPlaces.{places, stations}
 use Rattle.hc_registers.proofs.lemmas.RanksDeclared.{declared-places, declared-stations}
 use Rattle.hc_plan.proofs.lemmas.PlaceNames.{is_placed-on}
-use Rattle.hc_owed.specs.RegisterState.{RegisterState, Knowledge, register_state_of, block_in, known_in, owed_in}
+use Rattle.hc_owed.specs.RegisterState.{RegisterState, Knowledge, register_state_of, known_in, owed_in}
 use Rattle.hc_owed.specs.Laws.{known_over}
 use Rattle.hc_owed.specs.Room.{RegistersCanAdmit, OwedRoom, registers_widened}
-use Rattle.hc_owed.proofs.Lists.{is-map}
+use Rattle.hc_plan.proofs.lemmas.Replaced.{is-map}
 use Rattle.hc_owed.proofs.Opened.{register_state_from}
 
 -- of the slaves of the line all stays known
@@ -38,7 +38,7 @@ same-map {Y} f g all same =
     is-map (map f all) g all (length-map all f)
     (λ n z at. slice_get-map f all n ∙ ap (option_map f) at ∙ ap (λ (y : Y). Some y) (same n z at))
 
--- at empty places there is no block, and nothing is known or owed
+-- at empty places nothing is known or owed
 
 map-empty : {Y : Type 0} (f : Option LineBlock → Y) (count : ℕ) → map f (replicate count None) ≡ replicate count (f None)
 map-empty f zero = refl
@@ -59,20 +59,17 @@ entered known old group added is =
     let over = known_over old known in
     let count = ap (λ (l : List ℕ). 16 * length l) is ∙ ap (λ (n : ℕ). 16 * n) (length-map group.slaves (λ (slave : Slave). slave.station)) in
     let new = changed old (Declare group) in
-    ap (λ (l : List (Option RegisterBlock)). register_state_from l (map (known_in known) (places old) ++ replicate (16 * length added) None) (map (owed_in known) (places old) ++ replicate (16 * length added) false) (stations old ++ added))
-    (ap (λ (n : ℕ). map block_in (places old) ++ replicate n None) count ∙ over-places block_in block_in old group (λ n z at. refl))
-    ∙ ap (λ (l : List (Option (List ℕ))). register_state_from (map block_in (places new)) l (map (owed_in known) (places old) ++ replicate (16 * length added) false) (stations old ++ added))
+    ap (λ (l : List (Option (List ℕ))). register_state_from l (map (owed_in known) (places old) ++ replicate (16 * length added) false) (stations old ++ added))
     (ap (λ (n : ℕ). map (known_in known) (places old) ++ replicate n None) count ∙ over-places (known_in known) (known_in over) old group (known-unchanged known old))
-    ∙ ap (λ (l : List Bool). register_state_from (map block_in (places new)) (map (known_in over) (places new)) l (stations old ++ added))
+    ∙ ap (λ (l : List Bool). register_state_from (map (known_in over) (places new)) l (stations old ++ added))
     (ap (λ (n : ℕ). map (owed_in known) (places old) ++ replicate n false) count ∙ over-places (owed_in known) (owed_in over) old group (owed-unchanged known old))
-    ∙ ap (λ (l : List ℕ). register_state_from (map block_in (places new)) (map (known_in over) (places new)) (map (owed_in over) (places new)) l)
+    ∙ ap (λ (l : List ℕ). register_state_from (map (known_in over) (places new)) (map (owed_in over) (places new)) l)
     (ap (λ (l : List ℕ). stations old ++ l) is ∙ sym (declared-stations old group))
 
 -- the room serves what is kept, and the slaves are few
 
 pub record Fits (register_state : RegisterState) (room : OwedRoom) : Type 0 where
   pub few : length register_state.stations + length room.added < 65536
-  pub blocks : 16 * (length register_state.stations + length room.added) ≤ room.blocks
   pub known : 16 * (length register_state.stations + length room.added) ≤ room.known
   pub owed : 16 * (length register_state.stations + length room.added) ≤ 64 * room.owed
   pub stations : length register_state.stations + length room.added ≤ room.stations
@@ -90,7 +87,6 @@ fits register_state room can =
     let more = length-map slaves (λ (slave : Slave). slave.station) in
     record {
       few = omega (arith, count, own, size, named, few, more);
-      blocks = let enough = is.blocks in omega (arith, count, own, enough);
       known = let enough = is.known in omega (arith, count, own, enough);
       owed = let enough = is.owed in omega (arith, count, own, enough);
       stations = let enough = is.stations in omega (arith, count, own, enough);

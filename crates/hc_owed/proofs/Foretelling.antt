@@ -46,7 +46,7 @@ use Rattle.hc_owed.proofs.AreaPlaces.{get-range, is-range}
 use Rattle.hc_owed.proofs.Changing.{known-stays}
 use Rattle.hc_owed.proofs.Counting.{areas-more}
 use Rattle.hc_owed.proofs.JudgedAreas.{area_from, area_of, held-none, judged-none, judged-some}
-use Rattle.hc_owed.proofs.Lists.{length-changed}
+use Rattle.hc_plan.proofs.lemmas.Replaced.{length-changed}
 use Rattle.hc_owed.proofs.ReadyChanging.{area-before, areas-size, change-right, flag-is, gone-low, in-new, in-old, left-size, moved-low, out-new, out-old, place-old, same-count, went}
 use Rattle.hc_owed.proofs.ReadyEntering.{entered, never-comes, same-line}
 use Rattle.hc_owed.proofs.Tallies.{are-waiting}

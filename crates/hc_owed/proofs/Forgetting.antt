@@ -7,13 +7,13 @@ use Rattle.std.proofs.lemmas.Bool.{eqb-false, eqb-true}
 use Rattle.std.proofs.lemmas.List.{length-map}
 use Rattle.std.proofs.lemmas.Option.{slice_get-map, slice_get_within}
 use Rattle.hc_records.specs.Line.{State}
-use Rattle.hc_registers.specs.Blocks.{LineBlock, RegisterBlock}
+use Rattle.hc_registers.specs.Blocks.{LineBlock}
 use Rattle.hc_registers.specs.RankPlaces.{places, stations}
 use Rattle.hc_plan.proofs.lemmas.PlaceNames.{name-at}
-use Rattle.hc_owed.specs.RegisterState.{RegisterState, Knowledge, differs, register_state_of, block_in, known_in, owed_in}
+use Rattle.hc_owed.specs.RegisterState.{RegisterState, Knowledge, differs, register_state_of, known_in, owed_in}
 use Rattle.hc_owed.specs.Laws.{known_without}
 use Rattle.hc_owed.specs.Steps.{forgotten_at, forgotten_below, has_block, place_is_of}
-use Rattle.hc_owed.proofs.Lists.{get-changed, get-other, is-map, length-changed}
+use Rattle.hc_plan.proofs.lemmas.Replaced.{get-changed, get-other, is-map, length-changed}
 use Rattle.hc_owed.proofs.Opened.{register_state_from}
 
 -- the lists keep their lengths, and the blocks and the station addresses stay
@@ -32,14 +32,6 @@ module _ (station : ℕ) (register_state : RegisterState) where
   pub same-stations : (n : ℕ) → (below n).stations ≡ register_state.stations
   same-stations zero = refl
   same-stations (suc n) = same-stations_if (place_is_of station (below n).stations n) n (same-stations n)
-
-  same-blocks_if : (own : Bool) (n : ℕ) → (below n).blocks ≡ register_state.blocks → (either own n).blocks ≡ register_state.blocks
-  same-blocks_if true n rest = rest
-  same-blocks_if false n rest = rest
-
-  pub same-blocks : (n : ℕ) → (below n).blocks ≡ register_state.blocks
-  same-blocks zero = refl
-  same-blocks (suc n) = same-blocks_if (place_is_of station (below n).stations n) n (same-blocks n)
 
   -- whether a place is of the slave stays the same
   pub same-of : (n : ℕ) → below (suc n) ≡ either (place_is_of station register_state.stations n) n
@@ -193,11 +185,9 @@ module _ (station : ℕ) (known : Knowledge) (state : State) where
   forgotten : (n : ℕ) → n ≡ length all → forgotten_below station n before ≡ register_state_of after state
   forgotten n size =
       let then' = forgotten_below station n before in
-      let blocks = map block_in all in
-      ap (λ (b : List (Option RegisterBlock)). register_state_from b then'.known then'.owed then'.stations) (same-blocks station before n)
-      ∙ ap (λ (k : List (Option (List ℕ))). register_state_from blocks k then'.owed then'.stations) (known-map n size)
-      ∙ ap (λ (o : List Bool). register_state_from blocks (map (known_in after) all) o then'.stations) (owed-map n size)
-      ∙ ap (λ (s : List ℕ). register_state_from blocks (map (known_in after) all) (map (owed_in after) all) s) (same-stations station before n)
+      ap (λ (k : List (Option (List ℕ))). register_state_from k then'.owed then'.stations) (known-map n size)
+      ∙ ap (λ (o : List Bool). register_state_from (map (known_in after) all) o then'.stations) (owed-map n size)
+      ∙ ap (λ (s : List ℕ). register_state_from (map (known_in after) all) (map (owed_in after) all) s) (same-stations station before n)
 
 pub forgotten-right : (station n : ℕ) (register_state : RegisterState) (known : Knowledge) (state : State) → register_state ≡ register_state_of known state → n ≡ length register_state.known → forgotten_below station n register_state ≡ register_state_of (known_without station known) state
 forgotten-right station n register_state known state right size =

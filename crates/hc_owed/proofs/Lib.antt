@@ -11,7 +11,6 @@ mod Forgetting
 mod HoldingUp
 mod Picked
 mod JudgedAreas
-mod Lists
 mod MovedTasks
 mod Opened
 mod ReadyChanging

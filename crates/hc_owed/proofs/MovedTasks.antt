@@ -19,7 +19,7 @@ use Rattle.hc_owed.specs.ReadinessSteps.{area_moved, areas_left, block_moved}
 use Rattle.hc_owed.specs.TaskSets.{has_task, no_task}
 use Rattle.hc_owed.proofs.AreaChanges.{get-applied, get-inside, get-outside, get-unapplied, length-changed-from}
 use Rattle.hc_owed.proofs.ChangedTasks.{none-pass, row-has}
-use Rattle.hc_owed.proofs.Lists.{in-or-out}
+use Rattle.hc_plan.proofs.lemmas.Replaced.{in-or-out}
 use Rattle.hc_owed.proofs.TaskLists.{has-where}
 use Rattle.hc_owed.proofs.lemmas.TaskSums.{none-set}
 

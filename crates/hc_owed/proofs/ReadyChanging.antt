@@ -35,13 +35,15 @@ use Rattle.hc_owed.specs.Areas.{area_after, fmmu_moved, owes_fmmu, owes_sync_man
 use Rattle.hc_owed.specs.Laws.{RegistersAreEdited, known_over}
 use Rattle.hc_owed.specs.Readiness.{Holdings, area_slave, fmmu_at, held_set, judged_at, no_area, own_set, readiness_of, slot, standing_of}
 use Rattle.hc_owed.specs.ReadinessSteps.{ReadinessIsEdited, area_moved, areas_left, areas_moved, held_over, unplugged_over}
-use Rattle.hc_owed.specs.RegisterState.{Knowledge, RegisterState, block_in, owed_in, register_state_of}
+use Rattle.hc_owed.specs.RegisterState.{Knowledge, RegisterState, owed_in, register_state_of}
 use Rattle.hc_owed.specs.TaskSets.{some_task, tasks_where}
 use Rattle.hc_owed.proofs.AreaChanges.{get-applied, get-inside, get-outside, get-unapplied, length-changed-from}
 use Rattle.hc_owed.proofs.AreaPlaces.{area-is, area-of, get-range, in-line, is-range, length-range, of-area, slot-at, slot-is}
-use Rattle.hc_owed.proofs.Changing.{blocks-stay, owed-stays}
+use Rattle.hc_plan.specs.RegisterBlocks.{block_in}
+use Rattle.hc_plan.proofs.lemmas.StoredBlocks.{blocks-stay}
+use Rattle.hc_owed.proofs.Changing.{owed-stays}
 use Rattle.hc_owed.proofs.JudgedAreas.{area_from, area_of, inside, judged-none, judged-some, pair-first, pair-second}
-use Rattle.hc_owed.proofs.Lists.{in-or-out, length-changed}
+use Rattle.hc_plan.proofs.lemmas.Replaced.{in-or-out, length-changed}
 use Rattle.hc_owed.proofs.ReadyTurns.{block-station, both-blocks}
 
 pair-whole : (o : OwedPair) → pair_of (owes_sync_manager o) (owes_fmmu o) ≡ o
@@ -404,7 +406,7 @@ module _ (areas : List JudgedArea) (owed : RegisterState) (gone : Gone) (moved :
 
   stays-own : (n : ℕ) → n < 2 * all → (IsGone gone n → ⊥) → All (λ m. block_place m ≢ n) moved → own_set (slot is.old n) ≡ own_set (slot is.new n)
   stays-own n low out others =
-      own-of (slot is.old n) (slot is.new n) (blocks-stay (register_state_of is.known is.old) gone moved registers n (slot is.old n) (slot is.new n) (place-old n low) (place-new n low) out others)
+      own-of (slot is.old n) (slot is.new n) (blocks-stay (places is.old) (places is.new) gone moved registers.differ n (slot is.old n) (slot is.new n) (place-old n low) (place-new n low) out others)
 
   abbrev stood : ℕ → Slave → RegisterStatus
   stood i slave = standing_of (is_some (slot old (2 * i + 1))) (is.held slave.station (fmmu_at i)).unknown (is.unplugged slave.station && some_task (held_set (is.held slave.station (fmmu_at i))))

@@ -18,7 +18,7 @@ use Rattle.hc_owed.specs.RegisterState.{nothing_known, owed_in}
 use Rattle.hc_owed.specs.TaskSets.{no_task}
 use Rattle.hc_owed.proofs.AreaPlaces.{of-area, slot-at, slot-is}
 use Rattle.hc_owed.proofs.JudgedAreas.{area_from, area_of, judged-none, judged-some}
-use Rattle.hc_owed.proofs.Opened.{ranked-place}
+use Rattle.hc_plan.proofs.lemmas.StoredBlocks.{ranked-place}
 use Rattle.hc_owed.proofs.ReadyTurns.{both-blocks}
 use Rattle.hc_owed.proofs.TaskLists.{same-where}
 

@@ -32,7 +32,7 @@ use Rattle.hc_owed.specs.RegisterState.{Knowledge, differs, owed_in}
 use Rattle.hc_owed.specs.TaskSets.{no_task, some_task, tasks_where}
 use Rattle.hc_owed.proofs.AreaChanges.{get-inside, get-outside, length-changed-from}
 use Rattle.hc_owed.proofs.AreaPlaces.{area-of, get-range, in-line, is-range, length-range, of-area, slot-at}
-use Rattle.hc_owed.proofs.Lists.{in-or-out}
+use Rattle.hc_plan.proofs.lemmas.Replaced.{in-or-out}
 use Rattle.hc_owed.proofs.JudgedAreas.{area_from, area_of, held-none, judged-none, judged-some, same-area}
 
 -- the areas in a row are turned, and the others are as they were

@@ -22,7 +22,7 @@ use Rattle.hc_owed.specs.Readiness.{Holdings, area_slave, fmmu_at, judged_at, re
 use Rattle.hc_owed.specs.ReadinessSteps.{held_with, only_contents, with_contents}
 use Rattle.hc_owed.specs.RegisterState.{Knowledge, differs, lacks, owed_in}
 use Rattle.hc_owed.proofs.AreaPlaces.{IsOfArea, changed-range, get-range, of-area, one-area, slot-at, slot-is}
-use Rattle.hc_owed.proofs.Lists.{changed-same}
+use Rattle.hc_plan.proofs.lemmas.Replaced.{changed-same}
 use Rattle.hc_owed.proofs.JudgedAreas.{area_of, confirmed-fmmu, confirmed-sync_manager, judged-same, judged-some, same-area, written-area}
 use Rattle.hc_owed.proofs.Writing.{elsewhere, here, same-itself}
 

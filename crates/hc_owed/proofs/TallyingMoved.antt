@@ -19,7 +19,7 @@ use Rattle.hc_owed.specs.Tally.{CanPut, Puts, Tallies}
 use Rattle.hc_owed.proofs.AreaChanges.{get-outside}
 use Rattle.hc_owed.proofs.AreaPlaces.{changed-by}
 use Rattle.hc_owed.proofs.Counting.{area-put, can-put}
-use Rattle.hc_owed.proofs.Lists.{get-changed, get-other, length-changed}
+use Rattle.hc_plan.proofs.lemmas.Replaced.{get-changed, get-other, length-changed}
 
 -- an area that did not leave yet
 pub left-at : (areas : List JudgedArea) (from n : ℕ) (area : JudgedArea) → from ≤ n → slice_get areas n ≡ Some area → slice_get (changed_from (area_after Left) from (n - from) areas) n ≡ Some area

@@ -13,10 +13,10 @@ use Rattle.hc_registers.specs.Blocks.{LineBlock}
 use Rattle.hc_registers.specs.RankPlaces.{places, stations}
 use Rattle.hc_plan.specs.Reports.{found_name}
 use Rattle.hc_plan.proofs.lemmas.PlaceNames.{one-place}
-use Rattle.hc_owed.specs.RegisterState.{Knowledge, differs, register_state_of, block_in, known_in, lacks, owed_in}
+use Rattle.hc_owed.specs.RegisterState.{Knowledge, differs, register_state_of, known_in, lacks, owed_in}
 use Rattle.hc_owed.specs.Laws.{known_with, same_name}
 use Rattle.hc_owed.specs.Steps.{place_judged, learnt}
-use Rattle.hc_owed.proofs.Lists.{changed-same, get-changed, get-other, is-map, length-changed}
+use Rattle.hc_plan.proofs.lemmas.Replaced.{changed-same, get-changed, get-other, is-map, length-changed}
 use Rattle.hc_owed.proofs.Opened.{register_state_from}
 
 -- a block has its own name, and no block at another place has
@@ -82,20 +82,18 @@ module _ (known : Knowledge) (state : State) (n : ℕ) (block : LineBlock) (byte
 pub sent-right : (known : Knowledge) (state : State) (n : ℕ) (block : LineBlock) → lowest_fault (groups_of state.groups) ≡ None → slice_get (places state) n ≡ Some (Some block) → lacks known block ≡ true
     → learnt n None (register_state_of known state) ≡ register_state_of (known_with (found_name block) None known) state
 sent-right known state n block project at lacking =
-    let blocks = map block_in (places state) in
     let owed = map (owed_in known) (places state) in
     let after = known_with (found_name block) None known in
     let was : slice_get owed n ≡ Some true = slice_get-map (owed_in known) (places state) n ∙ ap (option_map (owed_in known)) at ∙ ap Some lacking in
-    ap (λ (k : List (Option (List ℕ))). register_state_from blocks k owed (stations state)) (write-known known state n block None project at)
-    ∙ ap (λ (o : List Bool). register_state_from blocks (map (known_in after) (places state)) o (stations state)) (sym (changed-same n true owed was) ∙ write-owed known state n block None project at)
+    ap (λ (k : List (Option (List ℕ))). register_state_from k owed (stations state)) (write-known known state n block None project at)
+    ∙ ap (λ (o : List Bool). register_state_from (map (known_in after) (places state)) o (stations state)) (sym (changed-same n true owed was) ∙ write-owed known state n block None project at)
 
 pub confirmed-right : (known : Knowledge) (state : State) (n : ℕ) (block : LineBlock) (bytes : List ℕ) → lowest_fault (groups_of state.groups) ≡ None → slice_get (places state) n ≡ Some (Some block) → bytes ≡ block.block.bytes
     → place_judged n false (learnt n (Some bytes) (register_state_of known state)) ≡ register_state_of (known_with (found_name block) (Some bytes) known) state
 confirmed-right known state n block bytes project at same =
-    let blocks = map block_in (places state) in
     let owed = map (owed_in known) (places state) in
     let after = known_with (found_name block) (Some bytes) known in
     let equal : bytes_eq block.block.bytes bytes ≡ true = (bytes_eq-Decides block.block.bytes bytes).1 (sym same) in
-    ap (λ (k : List (Option (List ℕ))). register_state_from blocks k (changed_at n (λ _. false) owed) (stations state)) (write-known known state n block (Some bytes) project at)
-    ∙ ap (λ (o : List Bool). register_state_from blocks (map (known_in after) (places state)) o (stations state))
+    ap (λ (k : List (Option (List ℕ))). register_state_from k (changed_at n (λ _. false) owed) (stations state)) (write-known known state n block (Some bytes) project at)
+    ∙ ap (λ (o : List Bool). register_state_from (map (known_in after) (places state)) o (stations state))
     (ap (λ (t : Bool). changed_at n (λ _. not t) owed) (sym equal) ∙ write-owed known state n block (Some bytes) project at)

@@ -1,5 +1,5 @@
 -- What is kept is right for what the slaves are known to have: what it gives, and what writes and edits make of it.
-use Rattle.std.specs.Prelude.{◌≡◌, ℕ, ◌+◌, ◌≤◌, ◌==◌, ◌&&◌, Bool, false, true, if◌then◌else◌, is_some, List, ◌∷◌, drop, filter, slice_get, MatchOption, Option, Some, None, Ok}
+use Rattle.std.specs.Prelude.{◌≡◌, ℕ, ◌+◌, ◌≤◌, ◌==◌, ◌&&◌, Bool, false, true, if◌then◌else◌, is_some, List, [], ◌∷◌, drop, filter, slice_get, MatchOption, Option, Some, None, Ok}
 use Rattle.hc_records.specs.declared.edit.Edit.{Edit}
 use Rattle.hc_records.specs.Edits.{declares, edited, slave_at}
 use Rattle.hc_records.specs.Line.{State, groups_of, line}
@@ -29,6 +29,11 @@ pub record IsFirstOwed (known : Knowledge) (state : State) (found : OwedBlock) :
   pub is_placed : slice_get (places state) found.place ≡ Some (Some found.block)
   pub first : lacking_blocks known state ≡ found.block ∷ rest
 
+-- the first owed block of a plan's line, or none if nothing is owed
+abbrev pub GivesFirstOwed : State → RegisterState → Option OwedBlock → Type 0
+GivesFirstOwed plan register_state found =
+    (known : Knowledge) (state : State) → plan ≡ state → IsRightFor known state register_state → MatchOption found (lacking_blocks known state ≡ []) (IsFirstOwed known state)
+
 -- those of them that are at a place or after it; from place 0 on that is all of them
 abbrev pub owed_from : Knowledge → State → ℕ → List LineBlock
 owed_from known state place = filter (lacks known) (standing (drop place (places state)))
@@ -38,6 +43,11 @@ pub record IsNextOwed (known : Knowledge) (state : State) (place : ℕ) (found :
   pub from : place ≤ found.place
   pub is_placed : slice_get (places state) found.place ≡ Some (Some found.block)
   pub next : owed_from known state place ≡ found.block ∷ owed_from known state (found.place + 1)
+
+-- the first owed block of a plan's line from a place on, or none if nothing is owed there
+abbrev pub GivesNextOwed : State → RegisterState → ℕ → Option OwedBlock → Type 0
+GivesNextOwed plan register_state place found =
+    (known : Knowledge) (state : State) → plan ≡ state → IsRightFor known state register_state → MatchOption found (owed_from known state place ≡ []) (IsNextOwed known state place)
 
 -- a block that is at its place is the one with an index, from 0, of those that are lacking
 pub record IsOwedAt (known : Knowledge) (state : State) (index : ℕ) (found : OwedBlock) : Type 0 where
@@ -66,6 +76,11 @@ pub record IsRightAt (register_state : RegisterState) (n : ℕ) (known : Knowled
   pub project : lowest_fault (groups_of state.groups) ≡ None
   pub is_placed : slice_get (places state) n ≡ Some (Some block)
 
+-- the block of a plan's line at a place, which has one
+abbrev pub GivesBlockAt : State → RegisterState → ℕ → Option OwedBlock → Type 0
+GivesBlockAt plan register_state place found =
+    (known : Knowledge) (state : State) (block : LineBlock) → plan ≡ state → IsRightAt register_state place known state block → found ≡ Some (record { place = place; block = block })
+
 -- that block is lacking
 pub record IsLackingAt (register_state : RegisterState) (n : ℕ) (known : Knowledge) (state : State) (block : LineBlock) : Type 0 where
   pub at : IsRightAt register_state n known state block
@@ -78,6 +93,11 @@ with_known known state block bytes = register_state_of (known_with (found_name b
 -- the register state once a block's slave has the bytes that the line configures
 abbrev pub as_written : Knowledge → State → LineBlock → RegisterState
 as_written known state block = with_known known state block (Some block.block.bytes)
+
+-- the slave of the block at a place has the bytes that a plan's line configures
+abbrev pub ConfirmsBlock : State → ℕ → RegisterState → RegisterState → Type 0
+ConfirmsBlock plan place old new =
+    (known : Knowledge) (state : State) (found : LineBlock) → plan ≡ state → IsRightAt old place known state found → new ≡ as_written known state found
 
 -- after an edit what was known of the slaves of the old line is known, and nothing of others
 abbrev pub known_over : State → Knowledge → Knowledge

@@ -1,14 +1,13 @@
 -- What is kept of the register blocks of all declared slaves, place by place.
-use Rattle.std.specs.Prelude.{ℕ, not, Bool, false, List, map, Option, None, option_and_then, option_map}
+use Rattle.std.specs.Prelude.{ℕ, not, Bool, false, List, map, Option, None, option_and_then}
 use Rattle.std.specs.Option.{option_map_or}
 use Rattle.std.specs.Str.{bytes_eq}
 use Rattle.hc_records.specs.Line.{State}
-use Rattle.hc_registers.specs.Blocks.{LineBlock, RegisterBlock}
+use Rattle.hc_registers.specs.Blocks.{LineBlock}
 use Rattle.hc_registers.specs.RankPlaces.{places, stations}
 
--- of each place the line's block, its known bytes, and whether it is owed; and the station addresses of the declared slaves, by rank
+-- of each place the known bytes of the line's block, and whether it is owed; and the station addresses of the declared slaves, by rank
 pub record RegisterState : Type 0 where
-  pub blocks : List (Option RegisterBlock)
   pub known : List (Option (List ℕ))
   pub owed : List Bool
   pub stations : List ℕ
@@ -33,10 +32,6 @@ differs bytes known = not (option_map_or (bytes_eq bytes) known false)
 abbrev pub lacks : Knowledge → LineBlock → Bool
 lacks known block = differs block.block.bytes (known_of known block)
 
--- the register block at a place that has a block or is empty
-abbrev pub block_in : Option LineBlock → Option RegisterBlock
-block_in block = option_map (λ found. found.block) block
-
 -- what is known, and what is owed, at a place that has a block or is empty
 abbrev pub known_in : Knowledge → Option LineBlock → Option (List ℕ)
 known_in known block = option_and_then (known_of known) block
@@ -48,7 +43,6 @@ owed_in known block = option_map_or (lacks known) block false
 -- the register state of a state's line, where that is known
 abbrev pub register_state_of : Knowledge → State → RegisterState
 register_state_of known state = record {
-  blocks = map block_in (places state);
   known = map (known_in known) (places state);
   owed = map (owed_in known) (places state);
   stations = stations state;

@@ -8,10 +8,9 @@ use Rattle.hc_records.specs.Project.{lowest_fault}
 use Rattle.hc_registers.specs.RankPlaces.{stations}
 use Rattle.hc_owed.specs.RegisterState.{RegisterState, Knowledge, register_state_of}
 
--- for how many places' blocks and known bytes there is memory, for how many words of 64 flags, and for how many station addresses; and the station addresses of the slaves that
+-- for how many places' known bytes there is memory, for how many words of 64 flags, and for how many station addresses; and the station addresses of the slaves that
 -- are added
 pub record OwedRoom : Type 0 where
-  pub blocks : ℕ
   pub known : ℕ
   pub owed : ℕ
   pub stations : ℕ
@@ -19,7 +18,6 @@ pub record OwedRoom : Type 0 where
 
 -- there is room for sixteen places of each of these slaves, and for their station addresses, after those of so many others
 pub record IsOwedRoomFor (count : ℕ) (slaves : List Slave) (room : OwedRoom) : Type 0 where
-  pub blocks : 16 * (count + length slaves) ≤ room.blocks
   pub known : 16 * (count + length slaves) ≤ room.known
   pub owed : 16 * (count + length slaves) ≤ 64 * room.owed
   pub stations : count + length slaves ≤ room.stations
@@ -28,7 +26,6 @@ pub record IsOwedRoomFor (count : ℕ) (slaves : List Slave) (room : OwedRoom) :
 -- what is kept, with empty places of slaves with these station addresses after the others
 abbrev pub registers_widened : List ℕ → RegisterState → RegisterState
 registers_widened added register_state = record {
-  blocks = register_state.blocks ++ replicate (16 * length added) None;
   known = register_state.known ++ replicate (16 * length added) None;
   owed = register_state.owed ++ replicate (16 * length added) false;
   stations = register_state.stations ++ added;

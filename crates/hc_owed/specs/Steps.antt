@@ -1,16 +1,12 @@
 -- The steps of what is kept, place by place.
-use Rattle.std.specs.Prelude.{ℕ, zero, suc, ◌+◌, ◌*◌, ◌/◌, ◌==◌, ◌||◌, is_some, Bool, false, if◌then◌else◌, List, [], ◌∷◌, slice_get, unwrap_or, Option, None, Some}
+use Rattle.std.specs.Prelude.{ℕ, zero, suc, ◌*◌, ◌/◌, ◌==◌, ◌||◌, is_some, Bool, false, if◌then◌else◌, List, [], ◌∷◌, slice_get, unwrap_or, Option, None}
 use Rattle.std.specs.Option.{option_map_or}
 use Rattle.hc_records.specs.Lists.{changed_at}
-use Rattle.hc_registers.specs.Blocks.{RegisterBlock}
 use Rattle.hc_registers.specs.declared.ranked.Gone.{Gone}
 use Rattle.hc_registers.specs.Ranked.{RankedBlock}
 use Rattle.hc_registers.specs.RankDifferences.{block_place, first_gone}
+use Rattle.hc_plan.specs.RegisterBlocks.{replaced_from}
 use Rattle.hc_owed.specs.RegisterState.{RegisterState, differs}
-
--- the line's block at a place
-abbrev pub block_put : ℕ → Option RegisterBlock → RegisterState → RegisterState
-block_put n block register_state = record register_state { blocks = changed_at n (λ _. block) register_state.blocks }
 
 -- what is known at a place, and whether it's owed there
 abbrev pub learnt : ℕ → Option (List ℕ) → RegisterState → RegisterState
@@ -20,15 +16,9 @@ learnt n known register_state = record register_state { known = changed_at n (λ
 abbrev pub place_judged : ℕ → Bool → RegisterState → RegisterState
 place_judged n owed register_state = record register_state { owed = changed_at n (λ _. owed) register_state.owed }
 
--- so many elements from an index on are replaced
-abbrev pub replaced_from : {X : Type 0} → ℕ → ℕ → X → List X → List X
-replaced_from from zero x xs = xs
-replaced_from from (suc count) x xs = changed_at (from + count) (λ _. x) (replaced_from from count x xs)
-
 -- so many places from one on are emptied
 abbrev pub places_emptied : ℕ → ℕ → RegisterState → RegisterState
 places_emptied from count register_state = record register_state {
-  blocks = replaced_from from count None register_state.blocks;
   known = replaced_from from count None register_state.known;
   owed = replaced_from from count false register_state.owed;
 }
@@ -62,10 +52,9 @@ cleared gone register_state = places_emptied (first_gone gone) (16 * gone.slaves
 abbrev pub owed_where_moved : RankedBlock → RegisterState → Bool
 owed_where_moved moved register_state = differs moved.found.block.bytes (unwrap_or (slice_get register_state.known (block_place moved)) None)
 
--- a moved block comes in place of the old one, and is compared with what is known at its place
+-- a moved block is compared with what is known at its place
 abbrev pub compared : RankedBlock → RegisterState → RegisterState
-compared moved register_state =
-    place_judged (block_place moved) (owed_where_moved moved register_state) (block_put (block_place moved) (Some moved.found.block) register_state)
+compared moved register_state = place_judged (block_place moved) (owed_where_moved moved register_state) register_state
 
 -- moved blocks, one after another
 abbrev pub compared_all : List RankedBlock → RegisterState → RegisterState

@@ -17,3 +17,6 @@ pub mod room;
 mod stations;
 mod tally;
 pub mod task_set;
+
+pub use owed::Owed;
+pub use readiness::Readiness;

@@ -1,13 +1,10 @@
 //! What is kept first: which blocks the line has, by the declared slaves alone.
-ghost use Rattle.std.specs.Prelude.{◌≡◌, ◌+◌, ◌++◌, ◌*◌, ◌<◌, ◌≤◌, ◌^◌, IfOk, OnOk, None, Some, length, map, replicate, slice_get};
+ghost use Rattle.std.specs.Prelude.{◌≡◌, ◌+◌, ◌++◌, ◌*◌, ◌<◌, ◌≤◌, ◌^◌, IfOk, OnOk, None, length, map, replicate};
 ghost use Rattle.hc_records.specs.Line.{groups_of};
 ghost use Rattle.hc_records.specs.Project.{slaves_of};
-ghost use Rattle.hc_registers.specs.RankPlaces.{places};
-ghost use Rattle.hc_owed.specs.RegisterState.{block_in};
 ghost use Rattle.hc_owed.specs.Opening.{declared_flags, slave_has_block, slave_flags, slaves_flags};
 
 use crate::flags::Flags;
-use hc_plan::plan::Plan;
 use hc_records::records::{Declared, Slave};
 use hc_registers::blocks::Block;
 use std::alloc::{AllocError, Global};
@@ -42,37 +39,6 @@ pub(crate) fn nothing_known(alloc: Global, places: usize) -> Result<Vec<Option<B
         known.push(None)?;
     }
     Ok(known)
-}
-
-/// The line's block at a place; none where the place is empty.
-fn own_block(plan: &Plan, place: usize) -> Option<Block>
-    requires inside { place < length (places plan.now) }
-    requires low { place < 16 * 65535 }
-    ensures { slice_get (map block_in (places plan.now)) place ≡ Some result }
-{
-    let rank = (place / 16 + 1) as u16;
-    let number = (place % 16) as u8;
-    match plan.block_of_rank(rank, number) {
-        Some(found) => Some(found.block),
-        None => None,
-    }
-}
-
-/// The line's blocks at so many places, which are all. `AllocError` where a growth was refused.
-pub(crate) fn own_blocks(
-    alloc: Global,
-    plan: &Plan,
-    count: usize,
-) -> Result<Vec<Option<Block>>, AllocError>
-    requires all { count ≡ length (places plan.now) }
-    requires low { count ≤ 16 * 65535 }
-    ensures { IfOk result (λ blocks. blocks.items ≡ map block_in (places plan.now)) }
-{
-    let mut blocks = Vec::with_capacity(alloc, count)?;
-    for place in 0..count {
-        blocks.push(own_block(plan, place))?;
-    }
-    Ok(blocks)
 }
 
 /// Whether a slave has a block with a number: two blocks for each area of a present one.

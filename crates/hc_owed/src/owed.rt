@@ -3,7 +3,7 @@ ghost use Rattle.std.specs.Prelude.{◌≡◌, option_map};
 ghost use Rattle.hc_owed.specs.RegisterState.{differs};
 
 use crate::flags::Flags;
-use crate::opening::{declared_flags, declared_stations, nothing_known, own_blocks};
+use crate::opening::{declared_flags, declared_stations, nothing_known};
 use hc_plan::plan::Plan;
 use hc_registers::blocks::{Block, LineBlock};
 use hc_registers::ranked::{Gone, RankedBlock};
@@ -29,11 +29,10 @@ fn differs(known: &Option<Block>, block: &Block) -> bool
     }
 }
 
-/// At each place of a declared slave's blocks, present or not: the line's block, the bytes that the slave is known to have,
-/// and whether the block is owed. Contracts see it as a `RegisterState`, which also has the station addresses.
+/// At each place of a declared slave's blocks, present or not: the bytes that the slave is known to have, and whether the block is
+/// owed. The line's blocks are the plan's. Contracts see it as a `RegisterState`, which also has the station addresses.
 #[derive(Debug, Drop)]
 pub struct Owed {
-    pub(crate) blocks: Vec<Option<Block>>,
     pub(crate) known: Vec<Option<Block>>,
     pub(crate) owed: Flags,
     // the station addresses of the declared slaves, by rank
@@ -46,20 +45,20 @@ impl Model for Owed {
 
     ghost Value = { RegisterState };
 
-    ghost view = { λ o. record { blocks = o.blocks.items; known = map (λ known. option_map (λ block. block.bytes) known) o.known.items; owed = o.owed.list; stations = o.stations.items } };
+    ghost view = { λ o. record { known = map (λ known. option_map (λ block. block.bytes) known) o.known.items; owed = o.owed.list; stations = o.stations.items } };
 
-    ghost invariant = { λ o. (length o.known.items ≡ 16 * length o.stations.items) × (length o.owed.list ≡ 16 * length o.stations.items) × (length o.stations.items < 65536) × (length o.blocks.items ≡ 16 * length o.stations.items) };
+    ghost invariant = { λ o. (length o.known.items ≡ 16 * length o.stations.items) × (length o.owed.list ≡ 16 * length o.stations.items) × (length o.stations.items < 65536) };
 }
 
 impl Owed {
-    ghost use Rattle.std.specs.Prelude.{◌≡◌, ◌+◌, ◌*◌, ◌<◌, ◌≤◌, All, IfOk, MatchOption, None, Some, [], length, option_map, slice_get, true};
+    ghost use Rattle.std.specs.Prelude.{◌≡◌, ◌+◌, ◌*◌, ◌<◌, ◌≤◌, All, IfOk, None, Some, length, option_map, slice_get, true};
     ghost use Rattle.hc_records.specs.Line.{State, groups_of};
     ghost use Rattle.hc_records.specs.Project.{lowest_fault};
     ghost use Rattle.hc_registers.specs.Blocks.{LineBlock};
     ghost use Rattle.hc_registers.specs.RankDifferences.{block_place, first_gone};
     ghost use Rattle.hc_owed.specs.RegisterState.{Knowledge, register_state_of, nothing_known};
-    ghost use Rattle.hc_owed.specs.Laws.{as_written, GivesOwedAt, IsFirstOwed, IsLackingAt, IsNextOwed, IsRightAt, IsRightFor, RegistersAreEdited, known_over, known_without, lacking_blocks, owed_from, with_known};
-    ghost use Rattle.hc_owed.specs.Steps.{block_put, cleared, compared, compared_all, places_emptied, forgotten_at, forgotten_of, has_block, learnt, owed_where_moved, place_judged};
+    ghost use Rattle.hc_owed.specs.Laws.{ConfirmsBlock, GivesBlockAt, GivesFirstOwed, GivesNextOwed, GivesOwedAt, IsLackingAt, IsRightFor, RegistersAreEdited, known_over, known_without, lacking_blocks, owed_from, with_known};
+    ghost use Rattle.hc_owed.specs.Steps.{cleared, compared, compared_all, places_emptied, forgotten_at, forgotten_of, has_block, learnt, owed_where_moved, place_judged};
 
     /// What is kept of a line whose slaves were just connected: nothing is known of any block, and every block is
     /// owed. `AllocError` where a growth was refused; of the later calls `room_for` alone takes memory.
@@ -68,11 +67,9 @@ impl Owed {
     {
         let stations = declared_stations(alloc, plan.groups())?;
         let places = 16 * stations.len();
-        let blocks = own_blocks(alloc, plan, places)?;
         let known = nothing_known(alloc, places)?;
         let owed = declared_flags(alloc, plan.groups(), places)?;
         Ok(Owed {
-            blocks,
             known,
             owed,
             stations,
@@ -102,23 +99,12 @@ impl Owed {
         self.owed.get(place)
     }
 
-    /// The line's block at a place; none where the place is empty.
-    fn block_at(&self, place: usize) -> Option<Block>
-        requires { place < length self.now.known }
-        ensures { slice_get self.now.blocks place ≡ Some result }
-    {
-        match &self.blocks[place] {
-            Some(block) => Some(block.copied()),
-            None => None,
-        }
-    }
-
     /// The line's block at a place, with its slave's station address and its number; none where the place is empty.
-    fn found_at(&self, place: usize) -> Option<OwedBlock>
+    fn found_at(&self, plan: &Plan, place: usize) -> Option<OwedBlock>
         requires { place < length self.now.known }
-        ensures { (known : Knowledge) (state : State) (block : LineBlock) → IsRightAt self.now place known state block → result ≡ Some (record { place = place; block = block }) }
+        ensures { GivesBlockAt plan.now self.now place result }
     {
-        let block = self.block_at(place)?;
+        let block = plan.block_at_place(place)?;
         let station = self.stations[place / 16];
         let number = (place % 16) as u8;
         Some(OwedBlock {
@@ -131,40 +117,32 @@ impl Owed {
         })
     }
 
-    /// The first owed block in line and block order; none where nothing is owed. It looks at 64 places at a time.
-    pub fn first(&self) -> Option<OwedBlock>
-        ensures { (known : Knowledge) (state : State) → IsRightFor known state self.now → MatchOption result (lacking_blocks known state ≡ []) (IsFirstOwed known state) }
+    /// The first owed block of a plan's line in line and block order; none if nothing is owed. It looks at 64 places at a time.
+    pub fn first(&self, plan: &Plan) -> Option<OwedBlock>
+        ensures { GivesFirstOwed plan.now self.now result }
     {
         let place = self.owed.first()?;
-        self.found_at(place)
+        self.found_at(plan, place)
     }
 
-    /// The owed block with an index, from 0, in line and block order; none where fewer are owed. It looks at each place up
-    /// to it.
-    pub fn nth(&self, index: u32) -> Option<OwedBlock>
-        ensures { (known : Knowledge) (state : State) → IsRightFor known state self.now → GivesOwedAt known state index result }
+    /// The owed block of a plan's line with an index, from 0, in line and block order; none if fewer are owed. It counts the
+    /// words of 64 places up to it.
+    pub fn nth(&self, plan: &Plan, index: u32) -> Option<OwedBlock>
+        ensures { (known : Knowledge) (state : State) → plan.now ≡ state → IsRightFor known state self.now → GivesOwedAt known state index result }
     {
         let place = self.owed.nth(index as usize)?;
-        self.found_at(place)
+        self.found_at(plan, place)
     }
 
-    /// The first owed block at a place or after it, in line and block order; none where nothing is owed from there on. So
-    /// place 0 gives the first owed block, and the place after an owed block the next one. It looks at 64 places at a
+    /// The first owed block of a plan's line at a place or after it, in line and block order; none if nothing is owed from there
+    /// on. So place 0 gives the first owed block, and the place after an owed block the next one. It looks at 64 places at a
     /// time.
-    pub fn next_from(&self, place: u32) -> Option<OwedBlock>
-        ensures next { (known : Knowledge) (state : State) → IsRightFor known state self.now → MatchOption result (owed_from known state place ≡ []) (IsNextOwed known state place) }
+    pub fn next_from(&self, plan: &Plan, place: u32) -> Option<OwedBlock>
+        ensures next { GivesNextOwed plan.now self.now place result }
         ensures all { (known : Knowledge) (state : State) → lowest_fault (groups_of state.groups) ≡ None → owed_from known state 0 ≡ lacking_blocks known state }
     {
         let place = self.owed.next_from(place as usize)?;
-        self.found_at(place)
-    }
-
-    /// Sets the line's block at a place.
-    fn put_block(&mut self, place: usize, block: Option<Block>)
-        requires { place < length self.old.known }
-        ensures { self.new ≡ block_put place block self.old }
-    {
-        self.blocks[place] = block;
+        self.found_at(plan, place)
     }
 
     /// Sets what is known of the block at a place.
@@ -192,13 +170,13 @@ impl Owed {
         self.learn(place as usize, None);
     }
 
-    /// The write of the block at a place was answered well, with the bytes that the present line configures: its
+    /// The write of the block at a place was answered well, with the bytes that a plan's line configures: its
     /// slave has them, and the block isn't owed.
-    pub fn confirmed(&mut self, place: u32)
+    pub fn confirmed(&mut self, plan: &Plan, place: u32)
         requires { place < length self.old.known }
-        ensures { (known : Knowledge) (state : State) (found : LineBlock) → IsRightAt self.old place known state found → self.new ≡ as_written known state found }
+        ensures { ConfirmsBlock plan.now place self.old self.new }
     {
-        let block = self.block_at(place as usize);
+        let block = plan.block_at_place(place as usize);
         self.learn(place as usize, block);
         self.judge(place as usize, false);
     }
@@ -224,7 +202,8 @@ impl Owed {
         self.judge(place, owed);
     }
 
-    /// The same where a place is of the slave with a station address.
+    /// Makes the block at a place, if there is one, unknown and so owed, if the place belongs to the slave with a station
+    /// address.
     fn forget_of(&mut self, place: usize, station: u16)
         requires { place < length self.old.known }
         ensures { self.new ≡ forgotten_of station place self.old }
@@ -253,7 +232,6 @@ impl Owed {
     {
         let from = gone.first_place();
         for i in 0..16 * usize::from(gone.slaves) {
-            self.put_block(from + i, None);
             self.learn(from + i, None);
             self.judge(from + i, false);
         }
@@ -268,7 +246,7 @@ impl Owed {
         differs(&self.known[moved.place()], &moved.found.block)
     }
 
-    /// Puts a moved block in place of the old one, and compares it with what is known of it.
+    /// Compares a moved block with what is known of it.
     fn compare(&mut self, moved: &RankedBlock)
         requires rank { 1 ≤ moved.now.rank }
         requires inside { block_place moved.now < length self.old.known }
@@ -276,11 +254,10 @@ impl Owed {
     {
         let place = moved.place();
         let owed = self.will_owe(moved);
-        self.put_block(place, Some(moved.found.block.copied()));
         self.judge(place, owed);
     }
 
-    /// Puts moved blocks in place of the old ones, and compares them with what is known of them.
+    /// Compares moved blocks with what is known of them.
     fn compare_all(&mut self, moved: &[RankedBlock])
         requires ranks { All (λ block. 1 ≤ block.rank) moved.now }
         requires inside { All (λ block. block_place block < length self.old.known) moved.now }

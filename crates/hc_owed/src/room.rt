@@ -12,7 +12,6 @@ use std::marker::Model;
 /// The memory that a declared group's slaves need, and their station addresses.
 #[derive(Drop)]
 pub struct OwedRoom {
-    blocks: Room<Option<Block>>,
     known: Room<Option<Block>>,
     owed: Room<u64>,
     stations: Room<u16>,
@@ -24,7 +23,7 @@ impl Model for OwedRoom {
 
     ghost Value = { OwedRoom };
 
-    ghost view = { λ room. record { blocks = room.blocks; known = room.known; owed = room.owed; stations = room.stations; added = room.added.items } };
+    ghost view = { λ room. record { known = room.known; owed = room.owed; stations = room.stations; added = room.added.items } };
 }
 
 /// The station addresses of slaves.
@@ -73,7 +72,6 @@ impl Owed {
     {
         let places = 16 * slaves.len();
         Ok(OwedRoom {
-            blocks: Room::for_more(alloc, &self.blocks, places)?,
             known: Room::for_more(alloc, &self.known, places)?,
             owed: self.owed.room_for(alloc, places)?,
             stations: Room::for_more(alloc, &self.stations, slaves.len())?,
@@ -84,14 +82,12 @@ impl Owed {
     /// Adds empty places of slaves after the others.
     fn widen(&mut self, room: OwedRoom)
         requires few { length self.old.stations + length room.added < 65536 }
-        requires blocks { 16 * (length self.old.stations + length room.added) ≤ room.blocks }
         requires known { 16 * (length self.old.stations + length room.added) ≤ room.known }
         requires owed { 16 * (length self.old.stations + length room.added) ≤ 64 * room.owed }
         requires stations { length self.old.stations + length room.added ≤ room.stations }
         ensures { self.new ≡ registers_widened room.added self.old }
     {
         let places = 16 * room.added.len();
-        add_nothing(&mut self.blocks, room.blocks, places);
         add_nothing(&mut self.known, room.known, places);
         self.owed.add_cleared(room.owed, places);
         add_stations(&mut self.stations, room.stations, room.added);

@@ -15,3 +15,6 @@ pub mod room;
 pub mod swap;
 pub mod table;
 pub mod variables;
+
+pub use swap::Swap;
+pub use table::Places;

@@ -86,7 +86,7 @@ pub(crate) fn count_near(rows: &[VariableRow], variable: VarId) -> usize
     count_below(&rows[..reach], variable)
 }
 
-/// The same where so many rows are known to have a lower number.
+/// Returns how many rows have a lower number than a variable, of which `front` are known to.
 pub(crate) fn count_from(rows: &[VariableRow], front: usize, variable: VarId) -> usize
     requires ascends { RowsAscend rows.now }
     requires front { front ≤ length rows.now }

@@ -145,8 +145,8 @@ fn merge_rows(rows: &mut Vec<VariableRow>, changed: &[ChangedRow], into: Vec<Var
     }
 }
 
-/// The same, but changes before the first that brings or takes a row, and after the last, are
-/// overwritten where they are.
+/// Merges changes into rows in place; changes before the first that adds or removes a row, and after the last, overwrite their
+/// rows.
 pub(crate) fn change_middle(
     rows: &mut Vec<VariableRow>,
     changed: &[ChangedRow],

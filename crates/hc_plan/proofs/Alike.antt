@@ -30,7 +30,7 @@ use Rattle.hc_records.proofs.lemmas.Declaring.{same-recut}
 use Rattle.hc_records.proofs.lemmas.Stations.{project-distinct}
 use Rattle.hc_registers.specs.declared.fmmu.Mapping.{Mapping}
 use Rattle.hc_registers.specs.Blocks.{RegisterBlock, fmmu_block, line_blocks, member_blocks, numbered, slave_blocks, sync_manager_block}
-use Rattle.hc_places.specs.Layout.{layout_of}
+use Rattle.hc_places.specs.Layout.{layout_of, placed_in}
 use Rattle.hc_places.specs.Table.{TaskTable, VariableRow, by_number, task_table}
 use Rattle.hc_places.proofs.lemmas.Lines.{same-table}
 use Rattle.hc_cuts.specs.Areas.{AreaLine, areas_by_rank, list_by, present_areas}
@@ -39,7 +39,7 @@ use Rattle.hc_cuts.specs.TaskCuts.{both_task_cuts, task_cuts_from}
 use Rattle.hc_cuts.proofs.lemmas.AnswerGiven.{task-listed}
 use Rattle.hc_changes.proofs.lemmas.Compared.{flat_map-among}
 use Rattle.hc_changes.proofs.lemmas.Lists.{find-only}
-use Rattle.hc_plan.specs.inner.Blocks.{IsLayoutOf, IsMappedSlave, area_blocks_in, mapping_in, slave_blocks_in}
+use Rattle.hc_plan.specs.inner.Blocks.{IsLayoutOf, IsMappedSlave, IsWritable, area_blocks_in, mapping_by, mapping_in, slave_blocks_in}
 use Rattle.hc_plan.specs.inner.Prepared.{AreConfiguredAlike, HasNoBits, MovesNoBits}
 use Rattle.hc_plan.proofs.NoBits.{HaveNoBits, areas-same, flat-on, line-on, on_slave, to_task}
 use Rattle.hc_plan.proofs.LineBlocks.{layout-slaves, slave_blocks-line}
@@ -120,6 +120,10 @@ mapped-by (suc bits) found some = refl
 abbrev blocks_if : List (List Placed) → ℕ → ℕ × Area → List RegisterBlock
 blocks_if layout rank e = sync_manager_block e.1 ∷ fmmu_block e.0 e.1 (mapped_if (width e.1) (mapping_in layout rank e.0 e.1)) ∷ []
 
+wide-mapped : (index : ℕ) (area : Area) (place : Option Placed) → IsWritable index area place → (mapping : Mapping) → mapping_by area place ≡ Some mapping → 0 < width area
+wide-mapped index area None own mapping is = cc
+wide-mapped index area (Some placed) own mapping is = let some = own.some placed refl in let bits = own.bits in omega (arith, some, bits)
+
 by-bits : (layout : List (List Placed)) (member : Member) → IsMappedSlave layout member
     → slave_blocks_in layout member ≡ flat_map (blocks_if layout member.rank) (enumerate_from 0 member.slave.areas)
 by-bits layout member mapped =
@@ -129,7 +133,7 @@ by-bits layout member mapped =
     let e = slice_index_or (enumerate_from 0 areas) k d in
     let own = mapped.areas e.0 e.1 (numbered-get areas k d inside) in
     ap (λ (m : Option Mapping). sync_manager_block e.1 ∷ fmmu_block e.0 e.1 m ∷ [])
-    (mapped-by (width e.1) (mapping_in layout member.rank e.0 e.1) (λ mapping is. (own.mapped mapping is).some)))
+    (mapped-by (width e.1) (mapping_in layout member.rank e.0 e.1) (wide-mapped e.0 e.1 (placed_in layout e.1.task (record { dir = e.1.dir; rank = member.rank; area = e.0 })) own)))
 
 area-by : (layout : List (List Placed)) (rank n to : ℕ) (area : Area) → width area ≡ 0 → blocks_if layout rank (n, to_task to area) ≡ blocks_if layout rank (n, area)
 area-by layout rank n to area none =

@@ -9,7 +9,7 @@ use Rattle.std.proofs.lemmas.List.Elements.{All-head, All-tail}
 use Rattle.hc_records.specs.declared.records.Declared.{Declared}
 use Rattle.hc_records.specs.declared.keys.Key.{Key}
 use Rattle.hc_records.specs.declared.records.Slave.{Slave}
-use Rattle.hc_records.specs.Line.{Member, is_at, line_from}
+use Rattle.hc_records.specs.Line.{Member, line_from}
 use Rattle.hc_records.specs.Packing.{Placed}
 use Rattle.hc_records.proofs.lemmas.Slaves.{project-counted}
 use Rattle.hc_records.proofs.lemmas.Walks.{get-back, get-front, length-line}
@@ -19,7 +19,7 @@ use Rattle.hc_registers.specs.declared.fmmu.Mapping.{Mapping}
 use Rattle.hc_registers.specs.Blocks.{LineBlock, RegisterBlock, area_blocks, line_blocks, member_blocks, moved_blocks, slave_blocks, sync_manager_block, fmmu_block, mapping_of}
 use Rattle.hc_places.proofs.lemmas.Found.{find-holds}
 use Rattle.hc_plan.specs.inner.Blocks.{IsLayoutOf, IsMappedSlave, area_blocks_in, mapping_in, slave_blocks_in}
-use Rattle.hc_plan.specs.Configuration.{at_station, block_at, block_of_rank, line_block_at}
+use Rattle.hc_plan.specs.Configuration.{at_station, block_of_rank, line_block_at}
 use Rattle.hc_changes.proofs.lemmas.Compared.{flat_map-among}
 use Rattle.hc_records.proofs.lemmas.Lists.{filter-few}
 use Rattle.hc_plan.proofs.Mapped.{slave-mapped}
@@ -30,7 +30,7 @@ pub layout-slaves : (groups : List Declared) (layout : List (List Placed)) → I
 layout-slaves groups layout known j d inside =
     let member = slice_index_or (line_from 1 groups) j d in
     subst (λ (l : List (List Placed)). IsMappedSlave l member) (sym known.is_placed)
-    (slave-mapped groups j member known.project known.uncrowded (slice_get-get_or (line_from 1 groups) j d inside))
+    (slave-mapped groups j member known.project (slice_get-get_or (line_from 1 groups) j d inside))
 
 pub found-mapped : (groups : List Declared) (layout : List (List Placed)) (test : Member → Bool) (member : Member) → IsLayoutOf groups layout
     → find test (line_from 1 groups) ≡ Some member → IsMappedSlave layout member
@@ -102,28 +102,20 @@ owner-has P (member ∷ members) n owner all is =
     owner-all P member n (owned_by members (n - own_blocks member)) owner (nat_lt n (own_blocks member)) (All-head P member members all)
     (λ rest. owner-has P members (n - own_blocks member) owner (All-tail P member members all) rest) is
 
-pub owner-mapped : (groups : List Declared) (layout : List (List Placed)) (n number : ℕ) (member : Member) → IsLayoutOf groups layout → owned_by (line_from 1 groups) n ≡ Some (member, number)
-    → IsMappedSlave layout member
-owner-mapped groups layout n number member known is = owner-has (IsMappedSlave layout) (line_from 1 groups) n (member, number) (layout-slaves groups layout known) is
-
-pub owner-shows : (groups : List Declared) (layout : List (List Placed)) (n number : ℕ) (member : Member) → IsLayoutOf groups layout → owned_by (line_from 1 groups) n ≡ Some (member, number)
-    → line_block_at (line_from 1 groups) n ≡ option_map (at_station member.slave.station) (slice_get (slave_blocks_in layout member) number)
-owner-shows groups layout n number member known is = search (rules, owned-block, slave_blocks-line, owner-mapped)
+pub owner-blocks : (groups : List Declared) (n number : ℕ) (member : Member) → owned_by (line_from 1 groups) n ≡ Some (member, number)
+    → line_block_at (line_from 1 groups) n ≡ option_map (at_station member.slave.station) (slice_get (slave_blocks (line_from 1 groups) member) number)
+owner-blocks groups n number member is =
+    let line = line_from 1 groups in
+    owned-block line line n ∙ ap (option_and_then (shows line)) is
 
 -- a slave of the line by its rank and its record
 pub same-member : (rank : ℕ) (slave : Slave) (member : Member) → rank ≡ member.rank → slave ≡ member.slave → member ≡ record { rank = rank; slave = slave }
 same-member rank slave member ranked own = search rules
 
-pub found-block : (groups : List Declared) (layout : List (List Placed)) (station number : ℕ) (member : Member) → IsLayoutOf groups layout
-    → find (is_at station) (line_from 1 groups) ≡ Some member → block_at (line_from 1 groups) station number ≡ slice_get (slave_blocks_in layout member) number
-found-block groups layout station number member known found =
-    let same = slave_blocks-line groups layout member known (found-mapped groups layout (is_at station) member known found) in
-    ap (option_and_then (λ (m : Member). slice_get (slave_blocks (line_from 1 groups) m) number)) found ∙ ap (λ (blocks : List RegisterBlock). slice_get blocks number) (sym same)
-
 abbrev has_rank : ℕ → Member → Bool
 has_rank rank member = member.rank == rank
 
--- the same of the slave with a rank
+-- the block of the slave with a rank
 pub found-ranked : (groups : List Declared) (layout : List (List Placed)) (rank number : ℕ) (member : Member) → IsLayoutOf groups layout
     → find (λ (m : Member). m.rank == rank) (line_from 1 groups) ≡ Some member
     → block_of_rank (line_from 1 groups) rank number

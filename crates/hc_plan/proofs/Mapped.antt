@@ -1,97 +1,79 @@
 -- In the line of a project every area's blocks can be written, by the places that packing gives.
-use Rattle.std.proofs.Common.{◌≡◌, ℕ, ◌+◌, ◌<◌, ◌≤◌, List, sym, ap, subst, ◌∙◌, arith, rules}
-use Rattle.std.specs.Prelude.{All, Option, Some, None, map, option_map, slice_get, slice_index_or}
-use Rattle.std.proofs.lemmas.Option.{get_or_from_slice_get, slice_get_within}
-use Rattle.hc_records.specs.declared.limits.TheConstants.{MOST_DATAGRAMS, TASKS}
-use Rattle.hc_records.specs.declared.records.Area.{Area}
+use Rattle.std.proofs.Common.{◌≡◌, Contains, ℕ, ◌<◌, ◌≤◌, List, Some, None, sym, ap, subst, ◌∙◌, arith, rules}
+use Rattle.std.specs.Prelude.{All, option_map, slice_get}
+use Rattle.std.specs.List.{enumerate_from}
+use Rattle.std.proofs.lemmas.List.Elements.{All-contains}
+use Rattle.std.proofs.lemmas.Option.{slice_get_within}
 use Rattle.hc_records.specs.declared.records.Declared.{Declared}
-use Rattle.hc_records.specs.declared.keys.Key.{Key}
+use Rattle.hc_records.specs.Image.{task_places}
 use Rattle.hc_records.specs.Keys.{same_key}
-use Rattle.hc_records.specs.Area.{width}
-use Rattle.hc_records.specs.Line.{Member, State, line_from}
-use Rattle.hc_records.specs.TaskList.{task_list}
-use Rattle.hc_records.specs.Packing.{Placed, opening, packed}
-use Rattle.hc_records.specs.Image.{datagram_count, task_places}
-use Rattle.hc_records.specs.Edits.{over_limit_task}
-use Rattle.hc_records.specs.Project.{lowest_fault}
-use Rattle.hc_records.specs.Laws.{IsPackable, LiesInside}
+use Rattle.hc_records.specs.Laws.{IsPackable}
 use Rattle.hc_records.specs.Limits.{IsAreaInside, IsSlaveInside}
-use Rattle.hc_records.proofs.lemmas.Greatest.{greatest-all}
-use Rattle.hc_records.proofs.lemmas.Inside.{packed-inside}
+use Rattle.hc_records.specs.Line.{Member, groups_of, line_from}
+use Rattle.hc_records.specs.Packing.{Placed, opening}
+use Rattle.hc_records.specs.Project.{lowest_fault}
+use Rattle.hc_records.specs.TaskList.{Keyed, task_list}
 use Rattle.hc_records.proofs.lemmas.Lists.{All-unmap}
 use Rattle.hc_records.proofs.lemmas.Packable.{project-packable}
 use Rattle.hc_records.proofs.lemmas.Packed.{area_of, packed-areas}
 use Rattle.hc_records.proofs.lemmas.Slaves.{line-inside}
-use Rattle.hc_registers.specs.declared.fmmu.Mapping.{Mapping}
-use Rattle.hc_registers.specs.Blocks.{IsMappable, mapping_at}
-use Rattle.hc_places.specs.Layout.{layout_of, placed_in}
-use Rattle.hc_records.proofs.lemmas.Addresses.{uncrowded-few}
-use Rattle.hc_places.proofs.lemmas.Found.{find-holds}
+use Rattle.hc_places.specs.Layout.{layout_of}
 use Rattle.hc_places.proofs.lemmas.Layouts.{placed-in-line}
-use Rattle.hc_plan.specs.inner.Blocks.{IsMappedArea, IsMappedSlave, bits_in}
-use Rattle.hc_changes.specs.Moved.{placed_bits}
-use Rattle.hc_plan.proofs.Widths.{area-bits}
+use Rattle.hc_changes.specs.MaybeMovedAreas.{LineArea, line_area_key, line_area_place}
+use Rattle.hc_changes.proofs.lemmas.Lists.{found-among}
+use Rattle.hc_changes.proofs.lemmas.OneProject.{line-declared, own-at}
+use Rattle.hc_changes.proofs.lemmas.Others.{IsAreaOf}
+use Rattle.hc_changes.proofs.lemmas.PlacedWidths.{placed-width}
+use Rattle.hc_changes.proofs.lemmas.Places.{area-inside}
+use Rattle.hc_plan.specs.inner.Blocks.{IsMappedSlave, IsWritable}
+use Rattle.hc_plan.proofs.Numbered.{get-numbered-from-0}
+use Rattle.hc_plan.proofs.lemmas.Configured.{at-contained}
 
--- the areas of a task's list with their places, in the line of a project that isn't over its limit
-record IsSoundlyPlaced (placed : Placed) : Type 0 where
-  pub packable : IsPackable (area_of placed)
-  pub inside : LiesInside placed
-  pub early : placed.datagram < MOST_DATAGRAMS
+placed-some : (groups : List Declared) → lowest_fault (groups_of groups) ≡ None → (found : LineArea) → (placed : Placed) → line_area_place (line_from 1 groups) found ≡ Some placed
+    → 0 < placed.bits
+placed-some groups none found placed is =
+    let task = found.area.task in
+    let list = task_list task (line_from 1 groups) in
+    let places = task_places task (line_from 1 groups) in
+    let stood = found-among (λ (p : Placed). same_key p.key (line_area_key found)) places placed is in
+    let packable : IsPackable (area_of placed) =
+    All-contains (λ (p : Placed). IsPackable (area_of p)) places placed
+    (All-unmap IsPackable area_of places (subst (λ (l : List Keyed). All IsPackable l) (sym (packed-areas opening list)) (project-packable (record { groups = groups; epoch = 0 }) task none))) stood.among in
+    packable.some
 
-places-are_placed : (groups : List Declared) (task : ℕ) → lowest_fault (map (λ declared. declared.group) groups) ≡ None → over_limit_task (line_from 1 groups) ≡ None → task < TASKS
-    → All IsSoundlyPlaced (task_places task (line_from 1 groups))
-places-are_placed groups task project uncrowded below i d under =
-    let members = line_from 1 groups in
-    let list = task_list task members in
-    let places = packed opening list in
-    let state : State = record { groups = groups; epoch = 0 } in
-    let packable : All IsPackable list = project-packable state task project in
-    let count = uncrowded-few members task uncrowded below in
-    let after_it : (slice_index_or places i d).datagram + 1 ≤ datagram_count places = greatest-all (λ (placed : Placed). placed.datagram + 1) 0 places i d under in
-    record {
-      packable = All-unmap IsPackable area_of places (subst (All IsPackable) (sym (packed-areas opening list)) packable) i d under;
-      inside = packed-inside opening list packable i d under;
-      early = omega (arith, after_it, count);
-    }
+pub early : (groups : List Declared) → lowest_fault (groups_of groups) ≡ None → (found : LineArea) → IsAreaOf (line_from 1 groups) found → found.index < 8
+early groups none found of =
+    let few = (All-contains (λ (m : Member). IsSlaveInside m.slave) (line_from 1 groups) found.member (line-inside groups none) of.member).few in
+    let below = slice_get_within found.member.slave.areas found.index found.area (own-at found.member.slave.areas (found.index, found.area) of.own) in
+    omega (arith, few, below)
 
--- an area's place in its task's list is where its FMMU maps it
+pub ranked-from : (groups : List Declared) (found : LineArea) → IsAreaOf (line_from 1 groups) found → 1 ≤ found.member.rank
+ranked-from groups found of =
+    let here = line-declared 1 groups found.member of.member in
+    let rank = here.rank in
+    omega (arith, rank)
 
-mapped-from : (o : Option Placed) (f : Placed → Mapping) (mapping : Mapping) (P : Mapping → Type 0) → ((placed : Placed) → o ≡ Some placed → P (f placed)) → option_map f o ≡ Some mapping → P mapping
-mapped-from o f mapping P holds is = search rules
+pub area-writable : (groups : List Declared) → lowest_fault (groups_of groups) ≡ None → (found : LineArea) → IsAreaOf (line_from 1 groups) found
+    → IsWritable found.index found.area (line_area_place (line_from 1 groups) found)
+area-writable groups none found of =
+    let below = early groups none found of in
+    let inside : IsAreaInside found.area = area-inside (record { groups = groups; epoch = 0 }) none found of in
+    search (rules, placed-width, placed-some)
 
-area-mappable : (area : Area) (placed : Placed) → area.task < TASKS → placed.bits ≡ width area → IsSoundlyPlaced placed → IsMappable area (mapping_at area.task placed)
-area-mappable area placed task bits is_placed = search rules
+-- so can those of each slave of the line, by its layout
+pub slave-mapped : (groups : List Declared) (j : ℕ) (member : Member) → lowest_fault (groups_of groups) ≡ None → slice_get (line_from 1 groups) j ≡ Some member
+    → IsMappedSlave (layout_of (line_from 1 groups)) member
+slave-mapped groups j member none at = record {
+  few = (All-contains (λ (m : Member). IsSlaveInside m.slave) line member (line-inside groups none) on).few;
+  areas = λ index area found.
+      let numbered = get-numbered-from-0 member.slave.areas index ∙ ap (option_map (λ a. (index, a))) found in
+      let own : LineArea = record { member = member; index = index; area = area } in
+      let writable = area-writable groups none own (record { member = on; own = at-contained (enumerate_from 0 member.slave.areas) index (index, area) numbered }) in
+      subst (IsWritable index area) (sym (placed-in-line line area.task (line_area_key own) writable.task)) writable;
+}
+  where
+    line : List Member
+    line = line_from 1 groups
 
-area-mapped : (groups : List Declared) (j : ℕ) (member : Member) (index : ℕ) (area : Area) → lowest_fault (map (λ declared. declared.group) groups) ≡ None → over_limit_task (line_from 1 groups) ≡ None
-    → slice_get (line_from 1 groups) j ≡ Some member → slice_get member.slave.areas index ≡ Some area → IsAreaInside area
-    → IsMappedArea (layout_of (line_from 1 groups)) member.rank index area
-area-mapped groups j member index area project uncrowded at found inside =
-    let members = line_from 1 groups in
-    let key : Key = record { dir = area.dir; rank = member.rank; area = index } in
-    let bits : bits_in (layout_of members) area.task key ≡ width area = area-bits groups j member index area inside.task at found in
-    record {
-      manager = inside.manager;
-      task = inside.task;
-      narrow = inside.narrow;
-      bits = bits;
-      mapped = λ mapping is.
-          mapped-from (placed_in (layout_of members) area.task key) (mapping_at area.task) mapping (IsMappable area)
-          (λ placed has.
-          let is_placed = find-holds IsSoundlyPlaced (λ (p : Placed). same_key p.key key) (task_places area.task members) placed
-          (sym (placed-in-line members area.task key inside.task) ∙ has) (places-are_placed groups area.task project uncrowded inside.task) in
-          area-mappable area placed inside.task (ap placed_bits (sym has) ∙ bits) is_placed.0)
-          is;
-    }
-
-pub slave-mapped : (groups : List Declared) (j : ℕ) (member : Member) → lowest_fault (map (λ declared. declared.group) groups) ≡ None → over_limit_task (line_from 1 groups) ≡ None
-    → slice_get (line_from 1 groups) j ≡ Some member → IsMappedSlave (layout_of (line_from 1 groups)) member
-slave-mapped groups j member project uncrowded at =
-    let members = line_from 1 groups in
-    let own : IsSlaveInside member.slave =
-    subst (λ (m : Member). IsSlaveInside m.slave) (get_or_from_slice_get members j member member at) (line-inside groups project j member (slice_get_within members j member at)) in
-    record {
-      few = own.few;
-      areas = λ index area found.
-          area-mapped groups j member index area project uncrowded at found
-          (subst IsAreaInside (get_or_from_slice_get member.slave.areas index area area found) (own.areas index area (slice_get_within member.slave.areas index area found)));
-    }
+    on : Contains line member
+    on = at-contained line j member at

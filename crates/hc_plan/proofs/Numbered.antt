@@ -8,7 +8,8 @@ use Rattle.hc_records.specs.declared.records.Area.{Area}
 use Rattle.hc_records.specs.Line.{Member}
 use Rattle.hc_records.specs.Packing.{Placed}
 use Rattle.hc_registers.specs.Blocks.{RegisterBlock, sync_manager_block}
-use Rattle.hc_plan.specs.inner.Blocks.{IsMappedArea, IsMappedSlave, area_block_in, fmmu_block_in, slave_blocks_in}
+use Rattle.hc_places.specs.Layout.{placed_in}
+use Rattle.hc_plan.specs.inner.Blocks.{IsMappedSlave, IsWritable, area_block_in, fmmu_block_in, slave_blocks_in}
 
 module _ {X Y : Type 0} (f g : X → Y) where
   -- two for each element: the even ones are the first of each, the odd ones the second
@@ -59,12 +60,6 @@ block-by-parity layout member n false is =
     get-second (λ e. sync_manager_block e.1) (fmmu_block_in layout member.rank) (enumerate_from 0 member.slave.areas) (n / 2) n
     (let odd : n % 2 ≢ 0 = eqb-false (n % 2) 0 is in omega arith)
 
--- the block with an odd number is an FMMU's
-pub odd-block : (layout : List (List Placed)) (rank n : ℕ) (e : ℕ × Area) (even : Bool) → (n % 2 == 0) ≡ even → (n % 2 ≡ 0 → ⊥)
-    → area_block_in layout rank n e ≡ fmmu_block_in layout rank e
-odd-block layout rank n e true is odd = absurd (odd (eqb-true (n % 2) 0 is))
-odd-block layout rank n e false is odd = ap (λ (b : Bool). if b then sync_manager_block e.1 else fmmu_block_in layout rank e) is
-
 pub get-slave_blocks : (layout : List (List Placed)) (member : Member) (n : ℕ)
     → slice_get (slave_blocks_in layout member) n ≡ option_map (λ area. area_block_in layout member.rank n (n / 2, area)) (slice_get member.slave.areas (n / 2))
 get-slave_blocks layout member n =
@@ -85,9 +80,10 @@ pub met-get : (member : Member) (areas : List Area) (n index rank : ℕ) (area :
 met-get member areas n index rank area met = search (rules, slice_get-get_or)
 
 pub met-mapped : (layout : List (List Placed)) (member : Member) (areas : List Area) (n index rank : ℕ) (area : Area) → AreaMet member areas n index rank area
-    → IsMappedSlave layout member → IsMappedArea layout rank (n / 2) area
+    → IsMappedSlave layout member → IsWritable (n / 2) area (placed_in layout area.task (record { dir = area.dir; rank = rank; area = n / 2 }))
 met-mapped layout member areas n index rank area met mapped =
-    subst (λ (r : ℕ). IsMappedArea layout r (n / 2) area) (sym met.ranked) (mapped.areas (n / 2) area (met-get member areas n index rank area met))
+    subst (λ (r : ℕ). IsWritable (n / 2) area (placed_in layout area.task (record { dir = area.dir; rank = r; area = n / 2 }))) (sym met.ranked)
+    (mapped.areas (n / 2) area (met-get member areas n index rank area met))
 
 pub met-block : (layout : List (List Placed)) (member : Member) (areas : List Area) (n index rank : ℕ) (area : Area) (block : RegisterBlock) → AreaMet member areas n index rank area
     → block ≡ area_block_in layout rank n (n / 2, area) → Some block ≡ slice_get (slave_blocks_in layout member) n

@@ -2,6 +2,8 @@
 pub mod Configured
 pub mod Differing
 pub mod PlaceNames
+pub mod Replaced
+pub mod StoredBlocks
 pub mod Unmoved
 pub mod AreaKeys
 pub mod Elements

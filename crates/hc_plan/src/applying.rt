@@ -13,24 +13,24 @@ ghost use Rattle.hc_cuts.specs.LineKeeping.{IsKnownBefore};
 ghost use Rattle.hc_cuts.specs.TaskCuts.{line_cuts};
 ghost use Rattle.hc_cuts.specs.ApplyWidths.{AreStartsOf};
 ghost use Rattle.hc_changes.specs.EditedLine.{IsEditedLine};
-ghost use Rattle.hc_plan.specs.inner.Applied.{AreSeen, Makes, state_before, state_after};
+ghost use Rattle.hc_plan.specs.RegisterBlocks.{blocks_by_rank};
+ghost use Rattle.hc_plan.specs.inner.Applied.{Makes, state_before, state_after};
 ghost use Rattle.hc_plan.specs.Reports.{ReportsEdit, found_name};
 
 use crate::line_widths::{apply_line_widths, restore_line_widths};
+use crate::moved_blocks::moved_blocks;
+use crate::register_blocks::RegisterBlocks;
 use crate::report::Report;
 use hc_bitsum::steps::Steps;
 use hc_changes::edited_line::EditedLine;
 use hc_changes::finding::maybe_moved_areas;
-use hc_changes::maybe_moved_areas::MaybeMoved;
-use hc_changes::moved::moved_blocks;
-use hc_changes::moved_areas::moved_areas;
 use hc_changes::rows::changed_rows;
 use hc_changes::tables::changed_tasks;
 use hc_cuts::line_keeping::Before;
 use hc_cuts::starts::LineStarts;
 use hc_cuts::tasks::LineCuts;
 use hc_places::room::Room;
-use hc_places::swap::{ChangedTask, Swap};
+use hc_places::swap::Swap;
 use hc_places::table::Places;
 use hc_records::edit::Edit;
 use hc_records::faults::EditFault;
@@ -40,7 +40,7 @@ use hc_registers::ranked::RankedBlock;
 use std::alloc::{AllocError, Global};
 use std::sync::ledger::{Blank, Ledger};
 
-/// What an accepted edit makes of a line: what is said of it, the boundaries of the new line's tasks, and the
+/// An edit worked out on a line: its report, the moved blocks with their bytes, the boundaries of the new line's tasks, and the
 /// memory for the new table.
 #[derive(Drop)]
 pub(crate) struct WorkedOut {
@@ -50,41 +50,13 @@ pub(crate) struct WorkedOut {
     pub(crate) room: Room,
 }
 
-/// What is seen of the new line, where its trees are.
-#[derive(Drop)]
-struct Seen<'a> {
-    maybe_moved_areas: Vec<MaybeMoved<'a>>,
-    tasks: Vec<ChangedTask>,
-}
-
-/// What leads from the old line to the new one, and the memory for it.
+/// The differences between the old line and the new one, and the memory for the new table.
 #[derive(Drop)]
 struct Leading {
     blocks: Vec<RankedBlock>,
     names: Vec<(u16, u8)>,
     swap: Swap,
     room: Room,
-}
-
-/// What is seen of the line that an edit makes, whose trees are those given. `AllocError` where a growth was
-/// refused.
-fn see_new_line<'a>(
-    alloc: Global,
-    edited_line: &EditedLine<'a>,
-    known: &Before,
-    cuts: &LineCuts,
-    places: &Places,
-) -> Result<Seen<'a>, AllocError>
-    requires edited_line { IsEditedLine edited_line.now }
-    requires known { IsKnownBefore (areas_by_rank edited_line.now.old) (areas_by_rank edited_line.now.new) known.now }
-    requires trees { cuts.now ≡ line_cuts (areas_by_rank edited_line.now.new) }
-    requires table { places.now ≡ table_of (line_from 1 edited_line.now.old) }
-    ensures { IfOk result (λ seen. AreSeen edited_line.now seen.maybe_moved_areas.items seen.tasks.items) }
-{
-    Ok(Seen {
-        maybe_moved_areas: maybe_moved_areas(alloc, edited_line, known, cuts)?,
-        tasks: changed_tasks(alloc, cuts, places, known)?,
-    })
 }
 
 /// The names of blocks, in their order: each by its slave's station address and its number in the slave's order.
@@ -98,35 +70,34 @@ fn names_of(alloc: Global, blocks: &[RankedBlock]) -> Result<Vec<(u16, u8)>, All
     Ok(names)
 }
 
-/// What leads from a line, whose trees are those given, to the one that an edit makes of it, by what was seen
-/// of that. The memory for it is the last that is taken. `AllocError` where a growth was refused.
+/// The differences between a line, by its table and its stored blocks, and the one that an edit makes of it, by the trees
+/// of that. The memory for the new table is allocated last. Fails with `AllocError` if an allocation fails.
 fn say(
     alloc: Global,
     edit: &Edit,
     edited_line: &EditedLine<'_>,
+    known: &Before,
     cuts: &LineCuts,
     places: &Places,
-    seen: Seen<'_>,
+    stored: &RegisterBlocks,
 ) -> Result<Leading, AllocError>
     requires edit { Makes edit.now places.now edited_line.now }
     requires accepted { over_limit_task (line_from 1 edited_line.now.new) ≡ None }
-    requires trees { cuts.now ≡ line_cuts (areas_by_rank edited_line.now.old) }
-    requires seen { AreSeen edited_line.now seen.maybe_moved_areas.items seen.tasks.items }
+    requires known { IsKnownBefore (areas_by_rank edited_line.now.old) (areas_by_rank edited_line.now.new) known.now }
+    requires trees { cuts.now ≡ line_cuts (areas_by_rank edited_line.now.new) }
+    requires stored { stored.now ≡ blocks_by_rank edited_line.now.old }
     ensures blocks { IfOk result (λ answer_given. answer_given.blocks.items ≡ moved_ranked (line_from 1 edited_line.now.old) (line_from 1 edited_line.now.new)) }
     ensures names { IfOk result (λ answer_given. answer_given.names.items ≡ map (λ block. found_name block.found) answer_given.blocks.items) }
     ensures edit { IfOk result (λ answer_given. answer_given.swap.edit ≡ edit.now) }
     ensures leads { IfOk result (λ answer_given. Leads (table_of (line_from 1 edited_line.now.old)) (table_of (line_from 1 edited_line.now.new)) answer_given.swap) }
     ensures room { IfOk result (λ answer_given. IsRowRoomFor answer_given.swap.change places.now answer_given.room) }
 {
-    let Seen {
-        maybe_moved_areas,
-        tasks,
-    } = seen;
-    let moved_areas = moved_areas(alloc, edited_line, cuts, maybe_moved_areas.as_slice())?;
-    let moving = moved_areas.as_slice();
-    let blocks = moved_blocks(alloc, edited_line, moving)?;
+    let candidates = maybe_moved_areas(alloc, edited_line, known, cuts)?;
+    let tasks = changed_tasks(alloc, cuts, places, known)?;
+    let found = candidates.as_slice();
+    let blocks = moved_blocks(alloc, edited_line, stored, found)?;
     let names = names_of(alloc, blocks.as_slice())?;
-    let rows = changed_rows(alloc, places, moving, edited_line.change())?;
+    let rows = changed_rows(alloc, places, found, edited_line.change())?;
     let swap = Swap::of(alloc, edit, tasks, rows)?;
     let room = places.room_for(alloc, &swap)?;
     Ok(Leading {
@@ -146,6 +117,7 @@ pub(crate) fn work_out<L: Ledger>(
     epoch: u32,
     cuts: &mut LineCuts,
     places: &Places,
+    stored: &RegisterBlocks,
     blank: Blank,
 ) -> Result<WorkedOut, EditFault>
     requires name { blank.name ≡ L.name }
@@ -153,6 +125,7 @@ pub(crate) fn work_out<L: Ledger>(
     requires one { L.parts ≡ 1 }
     requires edit { Makes edit.now places.now edited_line.now }
     requires trees { cuts.old ≡ line_cuts (areas_by_rank edited_line.now.old) }
+    requires stored { stored.now ≡ blocks_by_rank edited_line.now.old }
     ensures fits { OnOk result (over_limit_task (line_from 1 edited_line.now.new) ≡ None) }
     ensures starts { IfOk result (λ worked. AreStartsOf (areas_by_rank edited_line.now.new) worked.starts) }
     ensures report { IfOk result (λ worked. ReportsEdit (state_before epoch edited_line.now) edit.now (state_after epoch edited_line.now) worked.report) }
@@ -168,7 +141,7 @@ pub(crate) fn work_out<L: Ledger>(
         Ok(unsettled) => unsettled,
         Err(task) => return Err(EditFault::TooManyDatagrams(task)),
     };
-    let seen = see_new_line(alloc, edited_line, &known, cuts, places);
+    let leading = say(alloc, edit, edited_line, &known, cuts, places, stored);
     let starts = cuts.copied_starts();
     restore_line_widths(cuts, edited_line, &known);
     if epoch == LAST_EPOCH {
@@ -179,7 +152,7 @@ pub(crate) fn work_out<L: Ledger>(
         names,
         swap,
         room,
-    } = say(alloc, edit, edited_line, cuts, places, seen?)?;
+    } = leading?;
     let report = Report {
         epoch: epoch + 1,
         recut: unsettled,

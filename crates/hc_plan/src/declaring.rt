@@ -13,6 +13,7 @@ ghost use Rattle.hc_cuts.specs.TaskCuts.{line_cuts};
 ghost use Rattle.hc_cuts.specs.Room.{AreOfFewer, with_absent};
 ghost use Rattle.hc_plan.specs.inner.Declaring.{AreTrees, ShowsNothing, areas_take, limit_faults, names_taken, pdos_take, taken_faults};
 
+use crate::register_blocks::RegisterBlocks;
 use crate::report::Report;
 use hc_cuts::tasks::LineCuts;
 use hc_groups::index::{Index, Indexed};
@@ -24,6 +25,7 @@ use hc_records::items::Items;
 use hc_records::limits::{MOST_GROUPS, MOST_SLAVES};
 use hc_records::records::{Area, Declared, Entry, Group, Pdo, Slave};
 use hc_records::room::Room;
+use hc_registers::blocks::Block;
 use std::alloc::{AllocError, Global};
 
 /// A group that may be declared after the groups of a plan, and memory for it in what the plan keeps. Its
@@ -36,6 +38,8 @@ pub(crate) struct Declaration {
     groups: Room<Declared>,
     // for their index
     index: IndexRoom,
+    // for the places of their register blocks
+    blocks: Room<Option<Block>>,
     // the tasks of the line in trees with room for its slaves, where the plan's own have none
     wider: Option<LineCuts>,
 }
@@ -47,6 +51,7 @@ impl Drop for Declaration {
             slaves: _,
             groups: _,
             index: _,
+            blocks: _,
             wider: _,
         } = self;
     }
@@ -199,19 +204,22 @@ impl Declaration {
     ghost use Rattle.hc_cuts.specs.Areas.{areas_by_rank};
     ghost use Rattle.hc_cuts.specs.TaskCuts.{line_cuts};
     ghost use Rattle.hc_groups.specs.Index.{IsIndexOf};
+    ghost use Rattle.hc_plan.specs.RegisterBlocks.{blocks_by_rank};
     ghost use Rattle.hc_plan.specs.inner.Declaring.{CanDeclare};
 
-    /// What declaring a group after those of a project takes, all of it beside them. Otherwise the lowest of the
-    /// group's faults, 30 to 35, or `Memory` where a growth was refused.
+    /// A group that may be declared after those of a project, with all memory for it. Fails with the lowest of the
+    /// group's faults, 30 to 35, or with `Memory` if an allocation fails.
     pub(crate) fn of(
         alloc: Global,
         groups: &Items<Declared>,
         index: &Index,
         cuts: &LineCuts,
+        blocks: &RegisterBlocks,
         group: &Group,
     ) -> Result<Declaration, EditFault>
         requires index { IsIndexOf groups.now index.now }
         requires cuts { cuts.now ≡ line_cuts (areas_by_rank groups.now) }
+        requires blocks { blocks.now ≡ blocks_by_rank groups.now }
         ensures group { IfOk result (λ declaration. declaration.group ≡ group.now) }
         ensures ready { IfOk result (CanDeclare groups.now) }
         ensures refused { IfErr result (λ fault. fault ≢ Memory → lowest (declaring_faults groups.now group.now) ≡ Some fault) }
@@ -224,6 +232,7 @@ impl Declaration {
             groups: groups.room_for(alloc, 1)?,
             wider: widened(alloc, cuts, slaves)?,
             index: index.room_for(alloc, &group)?,
+            blocks: blocks.room_for(alloc, group.slaves.len())?,
             group,
         })
     }
@@ -234,23 +243,28 @@ impl Declaration {
         groups: &mut Items<Declared>,
         index: &mut Index,
         cuts: &mut LineCuts,
+        blocks: &mut RegisterBlocks,
     )
         requires ready { CanDeclare groups.old self }
         requires index { IsIndexOf groups.old index.old }
         requires cuts { cuts.old ≡ line_cuts (areas_by_rank groups.old) }
+        requires blocks { blocks.old ≡ blocks_by_rank groups.old }
         ensures groups { groups.new ≡ groups.old ++ absent self.group ∷ [] }
         ensures index { IsIndexOf groups.new index.new }
         ensures cuts { cuts.new ≡ line_cuts (areas_by_rank groups.new) }
+        ensures blocks { blocks.new ≡ blocks_by_rank groups.new }
     {
         let Declaration {
             group,
             slaves,
             groups: room,
             index: index_room,
+            blocks: block_room,
             wider,
         } = self;
         index.admit(&group, index_room);
         put_trees(cuts, slaves, wider);
+        blocks.admit(block_room, group.slaves.len());
         groups.push_into(
             room,
             Declared {
@@ -273,8 +287,8 @@ fn put_trees(cuts: &mut LineCuts, slaves: u16, wider: Option<LineCuts>)
     }
 }
 
-/// What is said of a declared group: the epoch that begins with it, and nothing that becomes different. `AllocError`
-/// where a growth was refused.
+/// The report of a declared group: a new epoch begins, and nothing of the line becomes different. Fails with `AllocError`
+/// if an allocation fails.
 pub(crate) fn declared_report(
     alloc: Global,
     edit: &Edit,

@@ -1,4 +1,5 @@
-//! Where the areas of a line are and how wide they are: read from the trees of its tasks, for the register blocks.
+//! `PlacedLine`: places of the areas of a line, read from the trees of its tasks. The register blocks of an opened
+//! line and the shares of working counters are made from it.
 use hc_cuts::packing::Placed;
 use hc_cuts::tasks::LineCuts;
 use hc_records::keys::Key;
@@ -35,7 +36,6 @@ impl<'a> PlacedLine<'a> {
     ghost use Rattle.hc_places.specs.Layout.{layout_of, placed_in};
     ghost use Rattle.hc_cuts.specs.Areas.{areas_by_rank};
     ghost use Rattle.hc_cuts.specs.TaskCuts.{line_cuts};
-    ghost use Rattle.hc_plan.specs.inner.Blocks.{bits_in};
 
     /// Those of the line of these groups, whose tasks are kept in these trees.
     pub(crate) fn of(groups: &'a [Declared], cuts: &'a LineCuts) -> PlacedLine<'a>
@@ -45,21 +45,12 @@ impl<'a> PlacedLine<'a> {
         PlacedLine { groups, cuts }
     }
 
-    /// Where the area with a key is in a task; none where the task has no such area, or the area has 0 bits. It takes no memory.
+    /// The place of the area with a key in a task; none if the task has no such area, or the area has 0 bits.
     pub(crate) fn placed(&self, task: Task, key: Key) -> Option<Placed>
         ensures { result ≡ placed_in self.now task key }
     {
         // says that the task's number is below 8
         let _ = task.number();
         self.cuts.place(task, key)
-    }
-
-    /// The width in bits of the area with a key in a task; 0 where the task has no such area. It takes no memory.
-    pub(crate) fn bits(&self, task: Task, key: Key) -> u16
-        ensures { result ≡ bits_in self.now task key }
-    {
-        // says that the task's number is below 8
-        let _ = task.number();
-        self.cuts.bits(task, key)
     }
 }

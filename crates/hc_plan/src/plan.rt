@@ -1,38 +1,30 @@
 //! A plan: the declared groups, those that are present, the epoch, and the configuration of the line.
-ghost use Rattle.std.specs.Prelude.{◌≡◌, false, IfOk, MatchOption, map};
-ghost use Rattle.hc_records.specs.declared.edit.Edit.TheVariants.{Declare};
-ghost use Rattle.hc_records.specs.Edits.{declares};
-ghost use Rattle.hc_records.specs.Line.{opened_group};
+ghost use Rattle.std.specs.Prelude.{◌≡◌, IfOk, None, map};
+ghost use Rattle.hc_records.specs.Edits.{over_limit_task};
+ghost use Rattle.hc_records.specs.Line.{line_from, opened_group};
+ghost use Rattle.hc_cuts.specs.Areas.{areas_by_rank};
+ghost use Rattle.hc_cuts.specs.TaskCuts.{line_cuts};
+ghost use Rattle.hc_groups.specs.Index.{IsIndexOf};
+ghost use Rattle.hc_plan.specs.RegisterBlocks.{blocks_by_rank};
 
-use crate::applying::work_out;
-use crate::bitless::moves_no_bits;
 use crate::blocks::{LineBlock, block_at, block_of_rank, nth_block};
-use crate::declaring::{Declaration, declared_report};
-use crate::line_widths::apply_known_widths;
 use crate::placed_line::PlacedLine;
-use crate::prepared::PreparedEdit;
-use crate::report::Report;
+use crate::register_blocks::RegisterBlocks;
 use crate::shares::share_of;
-use crate::work::{LineWork, Work};
-use hc_changes::edited_line::EditedLine;
 use hc_cuts::tasks::LineCuts;
 use hc_groups::faults::remap_fault;
 use hc_groups::index::{Index, Indexed};
-use hc_groups::prepared::Prepared;
 use hc_places::configure::{OpenedLine, open_line};
 use hc_places::table::Places;
-use hc_records::edit::Edit;
 use hc_records::faults::EditFault;
 use hc_records::items::Items;
 use hc_records::keys::Key;
-use hc_records::limits::LAST_EPOCH;
 use hc_records::project::Project;
 use hc_records::records::{Declared, Group};
 use hc_records::task::Task;
 use hc_registers::blocks::Block;
 use std::alloc::{AllocError, Global};
 use std::marker::{Brand, Model};
-use std::snapshot::Snapshot;
 use std::sync::ledger::Blank;
 
 /// The declared groups at the opening: the mandatory one, which has alias 0, is present alone.
@@ -47,27 +39,34 @@ fn opened_groups(alloc: Global, groups: Vec<Group>) -> Result<Items<Declared>, A
     Ok(Items::of(opened))
 }
 
-/// The group that an edit declares, none where it declares none.
-fn declared_group(edit: &Edit) -> Option<&Group>
-    ensures { MatchOption result (declares edit.now ≡ false) (λ group. edit.now ≡ Declare group.now) }
+/// The register blocks of the line of declared groups, by the trees of its tasks.
+fn opened_blocks(
+    alloc: Global,
+    groups: &[Declared],
+    index: &Index,
+    cuts: &LineCuts,
+) -> Result<RegisterBlocks, AllocError>
+    requires index { IsIndexOf groups.now index.now }
+    requires cuts { cuts.now ≡ line_cuts (areas_by_rank groups.now) }
+    requires fits { over_limit_task (line_from 1 groups.now) ≡ None }
+    ensures { IfOk result (λ blocks. blocks ≡ blocks_by_rank groups.now) }
 {
-    match edit {
-        Edit::Declare(group) => Some(group),
-        Edit::Connect(_) | Edit::Disconnect(_) | Edit::Remap { .. } | Edit::Move { .. } => None,
-    }
+    RegisterBlocks::open(alloc, &index.of(groups), &PlacedLine::of(groups, cuts))
 }
 
 /// A state of a line and its configuration. Its drop is written out, so that those who own a plan don't
 /// open what it holds wherever they let it go.
 #[derive(Debug)]
 pub struct Plan {
-    groups: Items<Declared>,
+    pub(crate) groups: Items<Declared>,
     // where the slaves of the line and their blocks are found
-    index: Index,
-    epoch: u32,
-    places: Places,
+    pub(crate) index: Index,
+    pub(crate) epoch: u32,
+    pub(crate) places: Places,
+    // the register blocks of the line, by rank
+    pub(crate) blocks: RegisterBlocks,
     // the tasks of the line, from which an edit cuts the new ones
-    cuts: LineCuts,
+    pub(crate) cuts: LineCuts,
 }
 
 impl Drop for Plan {
@@ -77,6 +76,7 @@ impl Drop for Plan {
             index: _,
             epoch: _,
             places: _,
+            blocks: _,
             cuts: _,
         } = self;
     }
@@ -91,35 +91,30 @@ impl Model for Plan {
     ghost use Rattle.hc_cuts.specs.Areas.{areas_by_rank};
     ghost use Rattle.hc_cuts.specs.TaskCuts.{line_cuts};
     ghost use Rattle.hc_groups.specs.Index.{IsIndexOf};
+    ghost use Rattle.hc_plan.specs.RegisterBlocks.{blocks_by_rank};
 
     ghost Value = { State };
 
     ghost view = { λ plan. record { groups = plan.groups; epoch = plan.epoch } };
 
-    ghost invariant = { λ plan. (lowest_fault (groups_of plan.groups) ≡ None) × (over_limit_task (line_from 1 plan.groups) ≡ None) × (plan.places ≡ table_of (line_from 1 plan.groups)) × (plan.cuts ≡ line_cuts (areas_by_rank plan.groups)) × IsIndexOf plan.groups plan.index };
+    ghost invariant = { λ plan. (lowest_fault (groups_of plan.groups) ≡ None) × (over_limit_task (line_from 1 plan.groups) ≡ None) × (plan.places ≡ table_of (line_from 1 plan.groups)) × (plan.cuts ≡ line_cuts (areas_by_rank plan.groups)) × IsIndexOf plan.groups plan.index × (plan.blocks ≡ blocks_by_rank plan.groups) };
 }
 
 impl Plan {
-    ghost use Rattle.std.specs.Prelude.{◌≡◌, ◌≢◌, ◌<◌, ◌≤◌, ◌∷◌, ◌++◌, [], false, Err, IfErr, IfOk, IfSome, None, Ok, OnErr, OnOk, length, map};
-    ghost use Rattle.hc_records.specs.declared.faults.EditFault.TheVariants.{Memory};
+    ghost use Rattle.std.specs.Prelude.{◌≡◌, ◌<◌, ◌≤◌, ◌∷◌, ◌++◌, [], IfErr, IfOk, IfSome, None, OnOk, length};
     ghost use Rattle.hc_records.specs.declared.keys.TheConstants.Key.{END};
     ghost use Rattle.hc_records.specs.declared.limits.TheConstants.{MOST_DATAGRAMS, TASKS};
     ghost use Rattle.hc_records.specs.Boundaries.{boundaries};
     ghost use Rattle.hc_records.specs.TaskList.{task_list};
-    ghost use Rattle.std.specs.List.{zip};
-    ghost use Rattle.hc_records.specs.declared.edit.Edit.TheVariants.{Declare, Remap};
-    ghost use Rattle.hc_records.specs.Edits.{over_limit_task, declares, edited, state_after_all};
+    ghost use Rattle.hc_records.specs.declared.edit.Edit.TheVariants.{Remap};
+    ghost use Rattle.hc_records.specs.Edits.{over_limit_task};
     ghost use Rattle.hc_records.specs.Line.{groups_of, line, opened};
     ghost use Rattle.hc_records.specs.Project.{lowest_fault};
     ghost use Rattle.hc_groups.specs.Edits.{own_fault};
     ghost use Rattle.hc_places.specs.Layout.{NamesOverLimit};
-    ghost use Rattle.hc_groups.specs.Changes.{changed_groups};
-    ghost use Rattle.hc_plan.specs.declared.work.Work.TheVariants.{NewLine, NewTask};
     ghost use Rattle.hc_plan.specs.inner.Blocks.{IsLayoutOf};
-    ghost use Rattle.hc_plan.specs.inner.Prepared.{CanCarry, MovesNoBits, groups_left_by};
-    ghost use Rattle.hc_plan.specs.Prepared.{IsPrepared};
     ghost use Rattle.hc_plan.specs.Configuration.{block_at, block_of_rank, config, line_block_at, position_of, station_at};
-    ghost use Rattle.hc_plan.specs.Reports.{AreAnswers, ReportsEdit, carried_out};
+    ghost use Rattle.hc_plan.specs.RegisterBlocks.{blocks_by_rank, has_at};
     ghost use Rattle.hc_plan.specs.Shares.{share_at};
 
     /// The plan of a project at its opening: the mandatory group alone is present and the epoch is 0.
@@ -134,11 +129,13 @@ impl Plan {
         let index = Index::new(alloc, groups.as_slice())?;
         let line = open_line::<Brand>(alloc, groups.as_slice(), Blank::new(1))?;
         let OpenedLine { cuts, places } = line;
+        let blocks = opened_blocks(alloc, groups.as_slice(), &index, &cuts)?;
         Ok(Plan {
             groups,
             index,
             epoch: 0,
             places,
+            blocks,
             cuts,
         })
     }
@@ -176,8 +173,7 @@ impl Plan {
     pub fn block(&self, station: u16, number: u8) -> Option<Block>
         ensures { result ≡ block_at (line self.now) station number }
     {
-        let table = &self.places;
-        block_at(&self.indexed(), &self.placed_line(), table, station, number)
+        block_at(&self.indexed(), &self.blocks, station, number)
     }
 
     /// The block with a number, from 0, in the order of the slave with a rank, counted from 1 over all declared slaves,
@@ -186,8 +182,15 @@ impl Plan {
     pub fn block_of_rank(&self, rank: u16, number: u8) -> Option<LineBlock>
         ensures { result ≡ block_of_rank (line self.now) rank number }
     {
-        let table = &self.places;
-        block_of_rank(&self.indexed(), &self.placed_line(), table, rank, number)
+        block_of_rank(&self.indexed(), &self.blocks, rank, number)
+    }
+
+    /// The block at a place, from 0: sixteen places stand for each declared slave, by rank, one for each block number. None if the
+    /// place is empty, as those of a slave outside the line are, or if there is no such place. It takes no time and no memory.
+    pub fn block_at_place(&self, place: usize) -> Option<Block>
+        ensures { result ≡ has_at (blocks_by_rank self.now.groups) place }
+    {
+        self.blocks.at(place)
     }
 
     /// The lowest fault that a remap with these indexes has by itself, as an edit of it is judged; a caller that has them in
@@ -210,8 +213,7 @@ impl Plan {
     pub fn nth_block(&self, n: u32) -> Option<(u16, Block)>
         ensures { result ≡ line_block_at (line self.now) n }
     {
-        let table = &self.places;
-        nth_block(&self.indexed(), &self.placed_line(), table, n)
+        nth_block(&self.indexed(), &self.blocks, n)
     }
 
     /// The keys where the datagrams of a task, 0 to 7, begin in the present line: `Key::START`, with which the
@@ -246,10 +248,9 @@ impl Plan {
         }
     }
 
-    /// What the slave with a station address adds to the working counter of the datagram of a task with a number, 0 to 3: 2
-    /// where the datagram carries outputs of it, and 1 where it carries inputs (ETG.1000.4, 5.4). None where the task has no
-    /// such datagram, or the line no such slave. What all slaves of the line add is the datagram's expected counter. It
-    /// takes no memory.
+    /// The slave with a station address adds so much to the working counter of the datagram of a task with a number, 0 to 3: 2
+    /// if the datagram carries outputs of it, and 1 if it carries inputs (ETG.1000.4, 5.4). None if the task has no
+    /// such datagram, or the line has no such slave. All slaves of the line together add the datagram's expected counter.
     pub fn counter_share(&self, task: u8, datagram: u8, station: u16) -> Option<u16>
         ensures value { result ≡ share_at (line self.now) task datagram station }
         ensures low { IfSome result (λ share. share ≤ 3) }
@@ -267,223 +268,16 @@ impl Plan {
     }
 
     /// The declared groups, for look-ups by the index.
-    fn indexed(&self) -> Indexed<'_>
+    pub(crate) fn indexed(&self) -> Indexed<'_>
         ensures { result ≡ self.now.groups }
     {
         self.index.of(self.groups.as_slice())
     }
 
-    /// Where the areas of the line are.
+    /// The places of the areas of the line.
     fn placed_line(&self) -> PlacedLine<'_>
         ensures { IsLayoutOf self.now.groups result }
     {
         PlacedLine::of(self.groups.as_slice(), &self.cuts)
-    }
-
-    /// Works out what an edit makes of the plan, and takes the memory for carrying it out; the plan is as it was.
-    /// Otherwise the lowest fault whose condition holds, or `Memory` where a growth was refused. A fault that the
-    /// edit has by itself, of the faults 1 to 11, is judged before the first growth.
-    pub fn prepare(&mut self, alloc: Global, edit: &Edit) -> Result<PreparedEdit, EditFault>
-        ensures made { IfOk result (λ prepared. prepared.old ≡ self.old) }
-        ensures edit { IfOk result (λ prepared. prepared.report.swap.edit ≡ edit.now) }
-        ensures accepted { IfOk result (λ prepared. edited self.old edit.now ≡ Ok prepared.new) }
-        ensures prepared { IfOk result IsPrepared }
-        ensures refused { IfErr result (λ fault. fault ≢ Memory → edited self.old edit.now ≡ Err fault) }
-        ensures own { IfSome (own_fault self.old.groups edit.now) (λ fault. result ≡ Err fault) }
-        ensures unchanged { self.new ≡ self.old }
-    {
-        match declared_group(edit) {
-            Some(group) => self.prepare_group(alloc, edit, group),
-            None if moves_no_bits(&self.indexed(), edit) => self.prepare_task(alloc, edit),
-            None => self.prepare_change(alloc, edit),
-        }
-    }
-
-    /// The same of an edit that moves an area without bits: the line stays configured as it is, so no edit is worked out
-    /// on it.
-    fn prepare_task(&self, alloc: Global, edit: &Edit) -> Result<PreparedEdit, EditFault>
-        requires { MovesNoBits self.now.groups edit.now }
-        ensures made { IfOk result (λ prepared. prepared.old ≡ self.now) }
-        ensures edit { IfOk result (λ prepared. prepared.report.swap.edit ≡ edit.now) }
-        ensures accepted { IfOk result (λ prepared. edited self.now edit.now ≡ Ok prepared.new) }
-        ensures prepared { IfOk result IsPrepared }
-        ensures refused { IfErr result (λ fault. fault ≢ Memory → edited self.now edit.now ≡ Err fault) }
-        ensures own { IfSome (own_fault self.now.groups edit.now) (λ fault. result ≡ Err fault) }
-    {
-        let groups = self.index.of(self.groups.as_slice());
-        let change = Prepared::of(alloc, &groups, edit)?;
-        if self.epoch == LAST_EPOCH {
-            return Err(EditFault::EpochsSpent);
-        }
-        let report = declared_report(alloc, edit, self.groups.as_slice(), self.epoch)?;
-        let was = Snapshot::of(self);
-        Ok(PreparedEdit {
-            was,
-            report,
-            blocks: Vec::new(alloc),
-            work: Work::NewTask(change),
-        })
-    }
-
-    /// The same of an edit that declares a group: the line stays as it is, so no edit is worked out on it.
-    fn prepare_group(
-        &self,
-        alloc: Global,
-        edit: &Edit,
-        group: &Group,
-    ) -> Result<PreparedEdit, EditFault>
-        requires { edit.now ≡ Declare group.now }
-        ensures made { IfOk result (λ prepared. prepared.old ≡ self.now) }
-        ensures edit { IfOk result (λ prepared. prepared.report.swap.edit ≡ edit.now) }
-        ensures accepted { IfOk result (λ prepared. edited self.now edit.now ≡ Ok prepared.new) }
-        ensures prepared { IfOk result IsPrepared }
-        ensures refused { IfErr result (λ fault. fault ≢ Memory → edited self.now edit.now ≡ Err fault) }
-        ensures own { IfSome (own_fault self.now.groups edit.now) (λ fault. result ≡ Err fault) }
-    {
-        if self.epoch == LAST_EPOCH {
-            return Err(EditFault::EpochsSpent);
-        }
-        let declaration = Declaration::of(alloc, &self.groups, &self.index, &self.cuts, group)?;
-        let report = declared_report(alloc, edit, self.groups.as_slice(), self.epoch)?;
-        let was = Snapshot::of(self);
-        Ok(PreparedEdit {
-            was,
-            report,
-            blocks: Vec::new(alloc),
-            work: Work::NewGroup(declaration),
-        })
-    }
-
-    /// The same of an edit that declares none.
-    fn prepare_change(&mut self, alloc: Global, edit: &Edit) -> Result<PreparedEdit, EditFault>
-        requires { declares edit.now ≡ false }
-        ensures made { IfOk result (λ prepared. prepared.old ≡ self.old) }
-        ensures edit { IfOk result (λ prepared. prepared.report.swap.edit ≡ edit.now) }
-        ensures accepted { IfOk result (λ prepared. edited self.old edit.now ≡ Ok prepared.new) }
-        ensures prepared { IfOk result IsPrepared }
-        ensures refused { IfErr result (λ fault. fault ≢ Memory → edited self.old edit.now ≡ Err fault) }
-        ensures own { IfSome (own_fault self.old.groups edit.now) (λ fault. result ≡ Err fault) }
-        ensures unchanged { self.new ≡ self.old }
-    {
-        let groups = self.index.of(self.groups.as_slice());
-        let change = Prepared::of(alloc, &groups, edit)?;
-        let edited_line = EditedLine::of(&groups, &change);
-        let worked = work_out::<Brand>(
-            alloc,
-            edit,
-            &edited_line,
-            self.epoch,
-            &mut self.cuts,
-            &self.places,
-            Blank::new(1),
-        )?;
-        drop(edited_line);
-        drop(groups);
-        Ok(PreparedEdit {
-            was: Snapshot::of(&*self),
-            report: worked.report,
-            blocks: worked.blocks,
-            work: Work::NewLine(LineWork {
-                change,
-                starts: worked.starts,
-                rows: worked.room,
-            }),
-        })
-    }
-
-    /// Carries a prepared edit out in the plan that it was worked out on, as it was then: the plan has the new line,
-    /// and the report says what became different. It takes no memory, and nothing can be refused.
-    pub fn carry_out(&mut self, prepared: PreparedEdit) -> Report
-        requires { prepared.old ≡ self.old }
-        ensures plan { self.new ≡ prepared.new }
-        ensures report { result ≡ prepared.report }
-    {
-        let PreparedEdit {
-            was: _,
-            report,
-            blocks: _,
-            work,
-        } = prepared;
-        self.carry_work(work, &report);
-        self.epoch = report.epoch;
-        report
-    }
-
-    /// Carries out what was worked out of an edit; the epoch stays.
-    fn carry_work(&mut self, work: Work, report: &Report)
-        requires { CanCarry self.old report.now work }
-        ensures { self.new ≡ record self.old { groups = groups_left_by work self.old.groups } }
-    {
-        match work {
-            Work::NewLine(line) => self.change_line(line, report),
-            Work::NewTask(change) => self.change_task(change, report),
-            Work::NewGroup(declaration) => {
-                declaration.carry_out(&mut self.groups, &mut self.index, &mut self.cuts);
-            }
-        }
-    }
-
-    /// The same of an edit that changes the line.
-    fn change_line(&mut self, work: LineWork, report: &Report)
-        requires { CanCarry self.old report.now (NewLine work) }
-        ensures { self.new ≡ record self.old { groups = changed_groups work.change self.old.groups } }
-    {
-        let LineWork {
-            change,
-            starts,
-            rows,
-        } = work;
-        let groups = self.index.of(self.groups.as_slice());
-        let edited_line = EditedLine::of(&groups, &change);
-        apply_known_widths(&mut self.cuts, &edited_line, &starts);
-        drop(edited_line);
-        drop(groups);
-        self.index.follow(self.groups.as_slice(), &change);
-        change.carry_out(&mut self.groups);
-        self.places.carry_out(&report.swap, rows);
-    }
-
-    /// The same of an edit that leaves the line configured as it is.
-    fn change_task(&mut self, change: Prepared, report: &Report)
-        requires { CanCarry self.old report.now (NewTask change) }
-        ensures { self.new ≡ record self.old { groups = changed_groups change self.old.groups } }
-    {
-        self.index.follow(self.groups.as_slice(), &change);
-        change.carry_out(&mut self.groups);
-    }
-
-    /// Carries an edit out: the plan then has the new line, and the report says what became different.
-    /// Otherwise the lowest fault whose condition holds, or `Memory` where a growth was refused; the
-    /// plan is then as it was. A fault that the edit has by itself, of the faults 1 to 11, is judged
-    /// before the first growth.
-    pub fn apply(&mut self, alloc: Global, edit: &Edit) -> Result<Report, EditFault>
-        ensures accepted { OnOk result (edited self.old edit.now ≡ Ok self.new) }
-        ensures report { IfOk result (ReportsEdit self.old edit.now self.new) }
-        ensures refused { IfErr result (λ fault. fault ≢ Memory → edited self.old edit.now ≡ Err fault) }
-        ensures own { IfSome (own_fault self.old.groups edit.now) (λ fault. result ≡ Err fault) }
-        ensures unchanged { OnErr result (self.new ≡ self.old) }
-    {
-        let prepared = self.prepare(alloc, edit)?;
-        Ok(self.carry_out(prepared))
-    }
-
-    /// Carries edits out in their order, as `apply` does each, and gives their answers. The room for the
-    /// answers is taken first: after `AllocError` no edit was carried out, and the plan is as it was.
-    pub fn run(
-        &mut self,
-        alloc: Global,
-        edits: &[Edit],
-    ) -> Result<Vec<Result<Report, EditFault>>, AllocError>
-        ensures count { IfOk result (λ answers. length answers.items ≡ length edits.now) }
-        ensures answers { IfOk result (λ answers. AreAnswers self.old (zip edits.now answers.items) self.new) }
-        ensures state { IfOk result (λ answers. self.new ≡ state_after_all self.old (carried_out (zip edits.now answers.items))) }
-        ensures unchanged { OnErr result (self.new ≡ self.old) }
-    {
-        let mut answers = Vec::with_capacity(alloc, edits.len())?;
-        for edit in edits {
-            let answer = self.apply(alloc, edit);
-            answers.push_reserved(answer);
-        }
-        Ok(answers)
     }
 }

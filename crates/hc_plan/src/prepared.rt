@@ -11,7 +11,7 @@ use hc_registers::ranked::{Gone, RankedBlock};
 use std::marker::Model;
 use std::snapshot::Snapshot;
 
-/// What an accepted edit makes of a plan, with the memory for carrying it out there. Contracts see the state
+/// An edit worked out on a plan, with all memory for carrying it out there. Contracts see the state
 /// before it and the one that it makes, its report, the slaves that leave the line, and the blocks that move.
 /// The plan is as it was until it carries the edit out.
 #[derive(Drop)]
@@ -38,7 +38,7 @@ impl Model for PreparedEdit {
 const NONE_GONE: Gone = Gone { rank: 1, slaves: 0 };
 
 /// The slaves that leave the line with a change.
-fn gone_with(change: &Prepared) -> Gone
+pub(crate) fn gone_with(change: &Prepared) -> Gone
     ensures { result ≡ gone_of change.now }
 {
     match change {
@@ -54,7 +54,7 @@ impl PreparedEdit {
     ghost use Rattle.std.specs.Prelude.{◌≡◌};
     ghost use Rattle.hc_plan.specs.Prepared.{IsPrepared};
 
-    /// What the edit does to the line: the report that carrying it out gives. It takes no memory.
+    /// The report that carrying the edit out returns.
     pub fn report(&self) -> &Report
         ensures report { result.now ≡ self.now.report }
         ensures prepared { IsPrepared self.now }

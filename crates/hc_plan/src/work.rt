@@ -1,11 +1,10 @@
-//! What is worked out of an edit before anything changes, so that carrying it out takes no memory and can't be
-//! refused.
+//! `Work`: the part of a prepared edit that carrying it out needs, so that this allocates nothing and can't fail.
 use crate::declaring::Declaration;
 use hc_cuts::starts::LineStarts;
 use hc_groups::prepared::Prepared;
 use hc_places::room::Room;
 
-/// What a change of a line takes: a group comes or goes, or a slave gets other areas.
+/// A change of the line: a group comes or goes, or a slave gets other areas.
 #[derive(Drop)]
 pub(crate) struct LineWork {
     pub(crate) change: Prepared,
@@ -15,7 +14,7 @@ pub(crate) struct LineWork {
     pub(crate) rows: Room,
 }
 
-/// What an accepted edit takes.
+/// The work of a prepared edit.
 #[derive(Drop)]
 pub(crate) enum Work {
     /// The line changes.

@@ -3,7 +3,7 @@ use Rattle.std.specs.Prelude.{ℕ, List, Option}
 use Rattle.hc_places.specs.Table.{Table, table_of}
 use Rattle.hc_events.specs.Points.{epoch_of, line_of}
 use Rattle.hc_conductor.specs.declared.one_thread.refusals.PostRefusal.{PostRefusal}
-use Rattle.hc_conductor.specs.declared.one_thread.settings.Setting.{Setting}
+use Rattle.hc_records.specs.declared.setting.Setting.{Setting}
 use Rattle.hc_conductor.specs.Posting.{post_made, post_refused, with_post}
 use Rattle.hc_program.specs.Standings.{SessionState}
 

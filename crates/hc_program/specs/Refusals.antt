@@ -72,6 +72,7 @@ core_fault_name core.VariableTaken = codes "VariableTaken"
 core_fault_name core.TooManyGroups = codes "TooManyGroups"
 core_fault_name core.TooManySlaves = codes "TooManySlaves"
 core_fault_name (core.Waits task blocks outside) = codes "Waits " ++ decimal task ++ codes " " ++ decimal blocks ++ codes " " ++ decimal outside
+core_fault_name core.UnderWay = codes "UnderWay"
 
 -- what a refused command prints
 unfoldable pub refusal_text : CoreFault → List ℕ

@@ -1,4 +1,4 @@
-//! The run of `projectcheck`: reads a project text, and says that it is a project, or why it isn't and where.
+//! The run of `projectcheck`: it reads a project text, and prints `ok` or the text's fault and its place.
 ghost use Rattle.std.specs.Prelude.{◌≡◌, ◌≤◌, ◌++◌, false, true, length, IfOk, IfSome, OnOk, string_bytes};
 ghost use Rattle.hc_text.specs.declared.input.TheConstants.{MOST_INPUT};
 ghost use Rattle.hc_program.specs.Checking.{CheckOutcome, IsCheckedText, StarvedCheck, position_text, answered_status, answered_text};
@@ -14,7 +14,7 @@ use hc_text::input::{Unread, read_all};
 use std::alloc::{AllocError, Global};
 use std::io::{Read, Write};
 
-/// What is said of a text.
+/// The report on a text.
 #[derive(Drop)]
 struct CheckedText {
     /// The lines to print.
@@ -47,7 +47,7 @@ fn push_answered(found: Option<Found>, out: &mut String) -> Result<(), AllocErro
     }
 }
 
-/// The exit status: 0 for a project, 3 for a fault.
+/// Returns the exit status: 0 for a project, 3 for a fault.
 fn status_of(found: Option<Found>) -> u8
     ensures { result ≡ answered_status found }
 {
@@ -57,7 +57,7 @@ fn status_of(found: Option<Found>) -> u8
     }
 }
 
-/// What is said of a text, or `AllocError` where a growth was refused.
+/// Returns the report on a text. `AllocError` if an allocation fails.
 fn say(alloc: Global, input: &[u8]) -> Result<CheckedText, AllocError>
     ensures { IfOk result (λ answer_given. IsCheckedText input.now (string_bytes answer_given.text) answer_given.status) }
 {
@@ -70,7 +70,7 @@ fn say(alloc: Global, input: &[u8]) -> Result<CheckedText, AllocError>
     })
 }
 
-/// Says of an input that is read.
+/// Writes the report on an input that was read.
 fn check_input<W: Write>(alloc: Global, input: &[u8], output: &mut W) -> RunEnd
     requires { length input.now ≤ MOST_INPUT }
     ensures unstarved { result.starved ≡ false
@@ -92,12 +92,12 @@ fn check_input<W: Write>(alloc: Global, input: &[u8], output: &mut W) -> RunEnd
     }
 }
 
-/// Runs the check: reads all of a reader, and writes `ok`, or the fault of the project text and its place. Where it ends
-/// unstarved with another status than 4, what was written is what is said of the text by `locate`, with status 0 for a
-/// project and 3 for a fault; in any unstarved end it is a front of such a text. A starved end has written nothing, with
-/// status 4, where the input isn't read, else `project fault 11 Memory`, with status 3.
+/// Runs the check: reads all of a reader, and writes `ok`, or the fault of the project text and its place. If it ends unstarved
+/// with a status other than 4, the written text is the report of `locate`, with status 0 for a project and 3 for a fault. After
+/// any unstarved end it is a prefix of such a text. A starved end has written nothing, with status 4, if the input was not
+/// read, and otherwise `project fault 11 Memory`, with status 3.
 ///
-/// Status 4 comes where it comes for `run_hotline`: the input is too long, or reading or writing failed.
+/// Status 4 is returned as by `run_hotline`: the input is too long, or reading or writing failed.
 pub fn run_projectcheck<R: Read, W: Write>(alloc: Global, input: &mut R, output: &mut W) -> RunEnd
     ensures unstarved { result.starved ≡ false → IfSome (R.remaining input.old)
         (λ bytes. EndsAsOne (W.contents output.old) (W.contents output.new) result (CheckOutcome bytes)) }

@@ -1,6 +1,4 @@
-//! What each command answers: each has a file of its own with its `reply`. How it is spelled is given
-//! by
-//! `hc_text::commands`.
+//! The commands and their replies. Each has a file of its own with its `reply`; `hc_text::commands` defines how it is written.
 ghost use Rattle.std.specs.Prelude.{◌≡◌, ◌++◌, IfErr, OnOk, string_bytes};
 ghost use Rattle.hc_program.specs.Commands.{session_left_by, printed};
 ghost use Rattle.hc_program.specs.Stops.{StopsIn};
@@ -31,9 +29,9 @@ use std::alloc::Global;
 use std::sync::Wait;
 use std::thread::Threads;
 
-/// Carries a command out and adds what it prints; nothing is published yet. A `Stop` where a growth was refused, or a seat
-/// was given no view: in a command of one call nothing was then accepted, in the others what was done is (`StopsIn`), and
-/// `out` may have a front of what would have been printed.
+/// Carries out a command and appends its reply. Nothing is published yet. Returns a `Stop` if an allocation fails or a seat
+/// gets no view: a command of one call has then done nothing, and any other command what it had done before (`StopsIn`); `out`
+/// may have a prefix of the reply.
 pub fn obey<R: Threads + Wait + Sync>(
     rt: &R,
     alloc: Global,

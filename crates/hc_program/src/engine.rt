@@ -1,5 +1,5 @@
-//! The run: reads all input, opens the project, answers each turn, which is a command line or a declaration with the
-//! lines of its document, and writes each reply before the next turn is answered.
+//! The run of `hotline`: it reads all input, opens the project, answers each turn, which is a command line or a declaration
+//! with the lines of its document, and writes each reply before it answers the next turn.
 ghost use Rattle.std.specs.Prelude.{◌≡◌, ◌≢◌, ◌≤◌, ◌+◌, false, true, length, IfSome};
 ghost use Rattle.std.specs.Option.{option_copied};
 ghost use Rattle.hc_text.specs.Cutting.{left_in};
@@ -25,49 +25,49 @@ use std::io::{Read, Write};
 use std::sync::Wait;
 use std::thread::Threads;
 
-/// The exit status of a run whose last line was reached.
+/// The exit status of a run that reached its last line.
 pub(crate) const DONE: u8 = 0;
 
 /// The exit status after a line that is no command.
 const BAD_COMMAND: u8 = 2;
 
-/// The exit status where the project isn't opened.
+/// The exit status if the project is not opened.
 pub(crate) const UNOPENED: u8 = 3;
 
-/// The exit status where the input isn't read or a write failed.
+/// The exit status if the input is not read or a write fails.
 pub(crate) const BROKEN: u8 = 4;
 
-/// Why a run ended with status 4.
+/// The reason for status 4.
 #[derive(Clone, Copy, Debug, PartialEq, Eq)]
 pub enum Broken {
-    /// The input wasn't read; nothing was written.
+    /// The input was not read; nothing was written.
     Unread(Unread),
-    /// A write failed, took nothing, or was interrupted too often; less than the whole text was written.
+    /// A write failed, wrote nothing, or was interrupted too often; less than the whole text was written.
     Unwritten,
 }
 
-/// How a run ended.
+/// The end of a run.
 #[derive(Clone, Copy, Debug, PartialEq, Eq)]
 pub struct RunEnd {
-    /// The exit status: 0 done, 2 after a line that is no command, 3 where the project isn't opened,
-    /// 4 where the input isn't read or a write failed.
+    /// The exit status: 0 for a run that reached its last line, 2 after a line that is no command, 3 if the project is not
+    /// opened, 4 if the input is not read or a write fails.
     pub status: u8,
-    /// Whether a growth was refused on the way, or a seat or a view, which no run meets.
+    /// Whether an allocation failed on the way, or a seat or a view was refused, which never occurs in practice.
     pub starved: bool,
-    /// Why the status is 4; none where it is another.
+    /// The reason for status 4; `None` with any other status.
     pub broken: Option<Broken>,
 }
 
-/// How a turn ended.
+/// The end of a turn.
 #[derive(Clone, Copy, Debug, PartialEq, Eq)]
 struct TurnEnd {
-    /// The exit status where the run ends here.
+    /// The exit status, if the run ends here.
     end: Option<u8>,
     /// Whether the turn was stopped, or its publishing refused.
     starved: bool,
 }
 
-/// Writes a reply. It ends the run, or the run goes on after it.
+/// Writes a reply. The run ends or continues after it.
 fn write_reply<W: Write>(text: &[u8], goes_on: bool, starved: bool, output: &mut W) -> TurnEnd
     ensures takes { (next : SessionState) → AnswersLine (W.contents output.old) (W.contents output.new) next result.end (reply_of text.now next goes_on) }
     ensures starved { result.starved ≡ starved }
@@ -84,14 +84,14 @@ fn write_reply<W: Write>(text: &[u8], goes_on: bool, starved: bool, output: &mut
     }
 }
 
-/// The exit status where the run ends after a reply that was written.
+/// Returns the exit status, if the run ends after a reply that was written.
 fn end_after(goes_on: bool) -> Option<u8>
     ensures { result ≡ end_after goes_on }
 {
     if goes_on { None } else { Some(BAD_COMMAND) }
 }
 
-/// The end, with this status, of a run whose input was read: where that is 4, a write failed.
+/// Returns the end of a run whose input was read, with this status; for status 4 the reason is a failed write.
 fn ended(status: u8, starved: bool) -> RunEnd
     ensures { result ≡ run_end_of status starved }
 {
@@ -107,8 +107,8 @@ fn ended(status: u8, starved: bool) -> RunEnd
     }
 }
 
-/// Answers a turn, publishes what it changed, and writes its reply, or why it was stopped. A refused publishing prints
-/// nothing; the next one goes on where it stopped.
+/// Answers a turn, publishes its changes, and writes its reply, or the line of its stop. A refused publishing prints nothing;
+/// the next one continues.
 fn take_turn<Rt: Threads + Wait + Sync, W: Write>(
     rt: &Rt,
     alloc: Global,
@@ -134,7 +134,7 @@ fn take_turn<Rt: Threads + Wait + Sync, W: Write>(
     }
 }
 
-/// Runs the command lines that follow, from a number on.
+/// Runs the remaining command lines, from a line number on.
 fn run_commands<Rt: Threads + Wait + Sync, W: Write>(
     rt: &Rt,
     alloc: Global,
@@ -165,7 +165,7 @@ fn run_commands<Rt: Threads + Wait + Sync, W: Write>(
     ended(DONE, starved)
 }
 
-/// Writes the last lines of a run, and ends it with this status, which isn't a failed write's.
+/// Writes the last lines of a run, and ends it with this status, which is not that of a failed write.
 pub(crate) fn end_with<W: Write>(lines: &[u8], end: u8, starved: bool, output: &mut W) -> RunEnd
     requires { end ≢ 4 }
     ensures answer_given { EndsAs (W.contents output.old) (W.contents output.new) result (record { text = lines.now; status = end }) }
@@ -177,7 +177,7 @@ pub(crate) fn end_with<W: Write>(lines: &[u8], end: u8, starved: bool, output: &
     }
 }
 
-/// Says why the project isn't opened.
+/// Writes the reason for which the project is not opened.
 #[tactic(auto, using(crate::proofs::Openings::in_refused_growth_same))]
 fn end_unopened<W: Write>(alloc: Global, fault: Unopened, output: &mut W) -> RunEnd
     ensures answer_given { result.starved ≡ false
@@ -193,7 +193,7 @@ fn end_unopened<W: Write>(alloc: Global, fault: Unopened, output: &mut W) -> Run
     }
 }
 
-/// Runs an input that is read.
+/// Runs an input that was read.
 fn run_input<Rt: Threads + Wait + Sync, W: Write>(
     rt: &Rt,
     alloc: Global,
@@ -224,24 +224,23 @@ fn run_input<Rt: Threads + Wait + Sync, W: Write>(
     }
 }
 
-/// Runs the program: reads all of a reader, and writes what the definition of its text gives for these bytes. Where it
-/// ends unstarved with another status than 4, what was written is the whole text and the status is its status; in any
-/// unstarved end it is a front of the text.
+/// Runs the program: reads all of a reader, and writes the text that is defined for these bytes. If it ends unstarved with a
+/// status other than 4, the whole text was written and the status is the text's. After any unstarved end a prefix of the text
+/// was written.
 ///
-/// The same holds of a starved end and one of the texts that a refused growth allows: nothing and status 4 where the
-/// input isn't read, `project fault 11 Memory` or `open fault 2 Memory` and status 3 where the project isn't opened,
-/// else the text of the commands, where one or more gave `refused 28 Memory` or, where frames didn't go along the
-/// line, `chain fault 1 Memory`, or weren't published. A command with such a line changed nothing, but in `scan`,
-/// `program` and `cycle` what was done before is. `open fault 3 NoSeat`, of a project that can be opened, and `refused
-/// 7 NoEntry` count as such texts; no run meets them.
+/// After a starved end the same is true of one of the texts that a failed allocation allows: no text and status 4 if the input
+/// is not read; `project fault 11 Memory` or `open fault 2 Memory` and status 3 if the project is not opened; otherwise the
+/// text of the commands, of which one or more printed `refused 28 Memory` or, if frames did not go along the line, `chain fault
+/// 1 Memory`, or were not published. A command with such a line changed nothing. Exception: of `scan`, `program` and `cycle`
+/// what was done before is done. `open fault 3 NoSeat`, of a project that can be opened, and `refused 7 NoEntry` count as such
+/// texts; they never occur in practice.
 ///
-/// After each turn what it changed is published, and each task's seat learns it. A refused publishing prints nothing;
-/// tasks view what they did, and the next one goes on where it stopped.
+/// After each turn its changes are published, and each task's seat learns them. A refused publishing prints nothing: tasks view
+/// what they viewed before, and the next publishing continues.
 ///
-/// Faults are found in the order input, project, opening, commands. Status 4 comes where the input is longer than
-/// 4,194,304 bytes, where reading fails or doesn't end within 4,194,305 turns, and where a write fails, takes nothing,
-/// or is interrupted over 4,194,305 times in one reply. Frames go along the line in threads of its segments; the run
-/// waits for them.
+/// Faults are found in the order input, project, opening, commands. Status 4 means that the input is longer than 4,194,304
+/// bytes, that reading fails or does not end within 4,194,305 turns, or that a write fails, writes nothing, or is interrupted
+/// over 4,194,305 times in one reply. Frames go along the line in threads of its segments; the run waits for them.
 pub fn run_hotline<Rt: Threads + Wait + Sync, R: Read, W: Write>(
     rt: &Rt,
     alloc: Global,

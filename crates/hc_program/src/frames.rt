@@ -1,4 +1,4 @@
-//! Frames as they are printed.
+//! Printed frames.
 ghost use Rattle.std.specs.Prelude.{◌≡◌, ◌++◌, OnOk, string_bytes};
 ghost use Rattle.hc_core.specs.Filled.{CanBeFilled};
 ghost use Rattle.hc_events.specs.Steps.{sent_text};
@@ -9,12 +9,11 @@ use hc_events::sending::Sending;
 use hc_text::printing::push_bytes;
 use std::alloc::AllocError;
 
-/// The bytes of the largest frame.
+/// The length of the longest frame.
 pub(crate) const LARGEST_FRAME: usize = 1514;
 
-/// Adds the line of a frame of datagrams of the present line after a word, as `sent 4: ff..`, with the
-/// values that the datagrams' output variables have now. `AllocError` where a growth was refused; `out` may
-/// then have a front of the line.
+/// Appends the line of a frame of the present line after a word, as `sent 4: ff..`, with the values that its datagrams' output
+/// variables have now. `AllocError` if an allocation fails; then `out` may have a prefix of the line.
 pub fn push_frame(
     word: &str,
     core: &Core,
@@ -24,7 +23,7 @@ pub fn push_frame(
     requires { CanBeFilled core.now.history frame.now }
     ensures { OnOk result (string_bytes out.new ≡ string_bytes out.old ++ frame_line word.now frame.now.serial (sent_text core.now.history frame.now)) }
 {
-    // its datagrams fit a frame, so that it is no larger than the largest
+    // its datagrams fit a frame, so it is at most as long as the longest
     let _ = frame.datagrams();
     let mut bytes = [0u8; LARGEST_FRAME];
     let bytes = &mut bytes[..frame.size()];
@@ -32,7 +31,7 @@ pub fn push_frame(
     push_line(word, frame.serial(), bytes, out)
 }
 
-/// Adds the line of a frame's bytes.
+/// Appends the line of a frame's bytes.
 #[tactic(auto, unfolding(crate::specs::Frames::frame_line))]
 fn push_line(word: &str, serial: u64, frame: &[u8], out: &mut String) -> Result<(), AllocError>
     ensures { OnOk result (string_bytes out.new ≡ string_bytes out.old ++ frame_line word.now serial frame.now) }

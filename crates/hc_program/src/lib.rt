@@ -1,5 +1,5 @@
-//! The program's run, over any reader and writer: project text and commands are read, answers are written. `hotline`
-//! calls it over standard input and output.
+//! The program's run over any reader and writer: it reads project text and commands, and writes replies. `hotline` calls it
+//! with standard input and output.
 #![tactic(auto)]
 
 pub mod checking;
@@ -14,3 +14,6 @@ mod replies;
 mod session;
 mod stops;
 mod turn;
+
+pub use checking::run_projectcheck;
+pub use engine::{Broken, RunEnd, run_hotline};

@@ -1,4 +1,4 @@
-//! Opening the project of an input, or saying why it can't be opened.
+//! Opening of an input's project, and the lines of its failures.
 ghost use Rattle.std.specs.Prelude.{◌≡◌, ◌++◌, IfErr, IfOk, OnOk, false, string_bytes, true};
 ghost use Rattle.hc_conductor.specs.Mastering.{master_history};
 ghost use Rattle.hc_program.specs.Sessions.{MasterIsAtOpening};
@@ -16,7 +16,7 @@ use std::alloc::{AllocError, Global};
 use std::sync::Wait;
 use thiserror::Error;
 
-/// Why a project isn't opened.
+/// The reason for which a project is not opened.
 #[derive(Clone, Copy, Debug, PartialEq, Eq, Error)]
 pub enum Unopened {
     /// The text is no project.
@@ -25,10 +25,10 @@ pub enum Unopened {
     /// A task of the opening line needs more than 16 datagrams: the lowest such task.
     #[error("task {0} needs too many datagrams")]
     TooManyDatagrams(u8),
-    /// A growth was refused while the project was opened.
+    /// An allocation failed while the project was opened.
     #[error("out of memory")]
     Memory,
-    /// A task's seat was refused, of a project that can be opened. No run meets this.
+    /// A task's seat was refused, of a project that can be opened. It never occurs in practice.
     #[error("a seat was refused")]
     NoSeat,
 }
@@ -37,7 +37,7 @@ impl Unopened {
     ghost use Rattle.std.specs.Prelude.{◌≡◌};
     ghost use Rattle.hc_program.specs.Opening.{is_refused_growth};
 
-    /// Whether a growth or a seat was refused.
+    /// Returns whether an allocation failed or a seat was refused.
     pub fn is_refused_growth(self) -> bool
         ensures { result ≡ is_refused_growth self }
     {
@@ -50,14 +50,14 @@ impl Unopened {
     }
 }
 
-/// Whether a project text was refused with `Memory`.
+/// Returns whether a project text was refused with `Memory`.
 fn is_project_memory(fault: ProjectFault) -> bool
     ensures { result ≡ is_project_memory fault }
 {
     fault == ProjectFault::Memory
 }
 
-/// The conductor and the seats of a project at its opening.
+/// Opens a project: returns the conductor and the seats.
 fn open_project<R: Wait>(rt: &R, alloc: Global, project: Project) -> Result<Master, Unopened>
     ensures opened { IfOk result (λ master. opened_unless (over_limit_at_opening project) project ≡ Ok (master_history master)) }
     ensures fresh { IfOk result MasterIsAtOpening }
@@ -72,8 +72,8 @@ fn open_project<R: Wait>(rt: &R, alloc: Global, project: Project) -> Result<Mast
     }
 }
 
-/// Those of the project of a text, or why it isn't opened. `NoSeat` comes only where the project can be opened, and each
-/// other fault than the text's only where the text is a project.
+/// Opens the project of a text: returns the conductor and the seats, or the fault. `NoSeat` is returned only if the project can
+/// be opened, and every other fault than the text's only if the text is a project.
 #[tactic(auto, using(crate::proofs::Openings::refusal_of_text), unfolding(crate::specs::Opening::opening_of))]
 fn open_text<R: Wait>(rt: &R, alloc: Global, text: &[u8]) -> Result<Master, Unopened>
     ensures opened { IfOk result (λ master. opening_of text.now ≡ Ok (master_history master)) }
@@ -87,8 +87,8 @@ fn open_text<R: Wait>(rt: &R, alloc: Global, text: &[u8]) -> Result<Master, Unop
     }
 }
 
-/// The session of the project of a text at its opening, or why it isn't opened. `NoSeat` comes only where the project can
-/// be opened, and each other fault than the text's only where the text is a project.
+/// Opens the project of a text: returns its session, or the fault. `NoSeat` is returned only if the project can be opened, and
+/// every other fault than the text's only if the text is a project.
 pub fn open_session<R: Wait>(rt: &R, alloc: Global, text: &[u8]) -> Result<Session, Unopened>
     ensures opened { IfOk result (λ session. opening_of text.now ≡ Ok session.history) }
     ensures begun { IfOk result (λ session. session ≡ opened_session_state session.history) }
@@ -102,8 +102,8 @@ pub fn open_session<R: Wait>(rt: &R, alloc: Global, text: &[u8]) -> Result<Sessi
     }
 }
 
-/// Adds the line of a project that isn't opened, as `open fault 1 TooManyDatagrams 0`. `AllocError` where
-/// a growth was refused; `out` may then have a front of the line.
+/// Appends the line of a project that is not opened, as `open fault 1 TooManyDatagrams 0`. `AllocError` if an allocation fails;
+/// then `out` may have a prefix of the line.
 #[tactic(auto, unfolding(crate::specs::Opening::unopened_text))]
 pub fn push_unopened(unopened: Unopened, out: &mut String) -> Result<(), AllocError>
     ensures { OnOk result (string_bytes out.new ≡ string_bytes out.old ++ unopened_text unopened) }
@@ -116,8 +116,8 @@ pub fn push_unopened(unopened: Unopened, out: &mut String) -> Result<(), AllocEr
     }
 }
 
-/// The line to write where a growth was refused while the line of a project that isn't opened was made: it is there without
-/// another.
+/// Returns the line for an allocation that failed while the line of a project that is not opened was made. It is a constant, so
+/// no allocation is needed.
 #[tactic(auto, unfolding(crate::specs::Opening::unopened_text, crate::specs::Refusals::project_fault_words))]
 pub fn memory_text(unopened: Unopened) -> &'static [u8]
     ensures { result.now ≡ unopened_text (with_refused_growth unopened) }

@@ -1,18 +1,18 @@
-//! Places of a project's text as they are printed.
+//! Printed places of a project's text.
 ghost use Rattle.std.specs.Prelude.{◌≡◌, ◌++◌, OnOk, string_bytes};
 ghost use Rattle.hc_program.specs.Places.{place_alias_text, array_text, first_text, group_text, item_text, key_name, key_text, path_text, project_place_text, separator, location_text, station_text};
 
 use hc_project::{Key, Location, Place};
 use std::alloc::AllocError;
 
-/// A full stop where something is before it.
+/// Appends a full stop if something is before it.
 fn separator(is_after: bool) -> &'static str
     ensures { result.now ≡ separator is_after }
 {
     if is_after { "." } else { "" }
 }
 
-/// Adds the group of a place, none at the top.
+/// Appends the group of a place; nothing at the top.
 #[tactic(auto, unfolding(crate::specs::Places::group_text))]
 fn push_group(group: usize, out: &mut String) -> Result<(), AllocError>
     ensures { OnOk result (string_bytes out.new ≡ string_bytes out.old ++ group_text group) }
@@ -24,7 +24,7 @@ fn push_group(group: usize, out: &mut String) -> Result<(), AllocError>
     write!(out, "group[{index}]")
 }
 
-/// Adds an item of an array, none where the place lies in none.
+/// Appends an item of an array; nothing if the place lies in none.
 #[tactic(auto, unfolding(crate::specs::Places::array_text))]
 fn push_array(
     is_after: bool,
@@ -43,14 +43,14 @@ fn push_array(
     }
 }
 
-/// Adds an array's name with an index in brackets, and the text that follows.
+/// Appends an array's name with an index in brackets, and the text that follows.
 fn push_item(name: &str, index: usize, rest: &str, out: &mut String) -> Result<(), AllocError>
     ensures { OnOk result (string_bytes out.new ≡ string_bytes out.old ++ item_text name.now index rest.now) }
 {
     write!(out, "{name}[{index}]{rest}")
 }
 
-/// Adds a key, with an index where it names an item; nothing for the whole table.
+/// Appends a key, with an index if it names an item; nothing for the whole table.
 fn push_key_name(key: Key, out: &mut String) -> Result<(), AllocError>
     ensures { OnOk result (string_bytes out.new ≡ string_bytes out.old ++ key_name key) }
 {
@@ -76,7 +76,7 @@ fn push_key_name(key: Key, out: &mut String) -> Result<(), AllocError>
     }
 }
 
-/// Adds what a place names, nothing where it is the table itself.
+/// Appends the name of a place's key; nothing for the table itself.
 #[tactic(auto, unfolding(crate::specs::Places::key_text))]
 fn push_key(is_after: bool, key: Key, out: &mut String) -> Result<(), AllocError>
     ensures { OnOk result (string_bytes out.new ≡ string_bytes out.old ++ key_text is_after key) }
@@ -88,7 +88,7 @@ fn push_key(is_after: bool, key: Key, out: &mut String) -> Result<(), AllocError
     push_key_name(key, out)
 }
 
-/// Adds the keys and indexes of a place.
+/// Appends the keys and indexes of a place.
 #[tactic(auto, unfolding(crate::specs::Places::path_text))]
 fn push_path(place: Place, out: &mut String) -> Result<(), AllocError>
     ensures { OnOk result (string_bytes out.new ≡ string_bytes out.old ++ path_text place) }
@@ -101,7 +101,7 @@ fn push_path(place: Place, out: &mut String) -> Result<(), AllocError>
     push_key(in_group || place.slave.is_some(), place.key, out)
 }
 
-/// Adds the alias of a place's group, in decimal; nothing for 0, which is the top or an alias that can't be read.
+/// Appends the alias of a place's group, in decimal; nothing for 0, which is the top or an alias that cannot be read.
 #[tactic(auto, unfolding(crate::specs::Places::place_alias_text))]
 fn push_alias(alias: u16, out: &mut String) -> Result<(), AllocError>
     ensures { OnOk result (string_bytes out.new ≡ string_bytes out.old ++ place_alias_text alias) }
@@ -112,7 +112,7 @@ fn push_alias(alias: u16, out: &mut String) -> Result<(), AllocError>
     write!(out, " alias {alias}")
 }
 
-/// Adds the station address of a place's slave, in decimal; nothing for 0, where there is no slave or its address can't be
+/// Appends the station address of a place's slave, in decimal; nothing for 0, if there is no slave or its address cannot be
 /// read.
 #[tactic(auto, unfolding(crate::specs::Places::station_text))]
 fn push_station(station: u16, out: &mut String) -> Result<(), AllocError>
@@ -124,7 +124,7 @@ fn push_station(station: u16, out: &mut String) -> Result<(), AllocError>
     write!(out, " station {station}")
 }
 
-/// Adds a place, with its group's alias and its slave's station address where they are known.
+/// Appends a place, with its group's alias and its slave's station address if they are known.
 #[tactic(auto, unfolding(crate::specs::Places::project_place_text))]
 fn push_place(place: Place, out: &mut String) -> Result<(), AllocError>
     ensures { OnOk result (string_bytes out.new ≡ string_bytes out.old ++ project_place_text place) }
@@ -134,7 +134,7 @@ fn push_place(place: Place, out: &mut String) -> Result<(), AllocError>
     push_station(place.station, out)
 }
 
-/// Adds the place of the earlier of two things.
+/// Appends the place of the earlier of two things.
 fn push_first(first: Option<Place>, out: &mut String) -> Result<(), AllocError>
     ensures { OnOk result (string_bytes out.new ≡ string_bytes out.old ++ first_text first) }
 {
@@ -147,8 +147,8 @@ fn push_first(first: Option<Place>, out: &mut String) -> Result<(), AllocError>
     }
 }
 
-/// Adds the line of a place, as `at slave[1].station station 7 first slave[0].station station 7`. `AllocError` where a
-/// growth was refused; `out` may then have a front of the line.
+/// Appends the line of a place, as `at slave[1].station station 7 first slave[0].station station 7`. `AllocError` if an
+/// allocation fails; then `out` may have a prefix of the line.
 #[tactic(auto, unfolding(crate::specs::Places::location_text))]
 pub fn push_location(location: Location, out: &mut String) -> Result<(), AllocError>
     ensures { OnOk result (string_bytes out.new ≡ string_bytes out.old ++ location_text location) }

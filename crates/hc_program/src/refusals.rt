@@ -1,4 +1,4 @@
-//! Faults as they are printed.
+//! Printed faults.
 ghost use Rattle.std.specs.Prelude.{◌≡◌, ◌≢◌, ◌++◌, OnOk, string_bytes};
 ghost use Rattle.hc_events.specs.declared.faults.CoreFault.TheVariants.{BadGroup, Memory};
 ghost use Rattle.hc_records.specs.declared.faults.ProjectFault.TheVariants as project;
@@ -8,7 +8,7 @@ use hc_events::faults::CoreFault;
 use hc_records::faults::ProjectFault;
 use std::alloc::AllocError;
 
-/// Adds the name of a project text's fault.
+/// Appends the name of a project text's fault.
 fn push_project_fault_name(fault: ProjectFault, out: &mut String) -> Result<(), AllocError>
     ensures { OnOk result (string_bytes out.new ≡ string_bytes out.old ++ project_fault_name fault) }
 {
@@ -28,8 +28,8 @@ fn push_project_fault_name(fault: ProjectFault, out: &mut String) -> Result<(), 
     }
 }
 
-/// Adds the line of a project's fault, as `project fault 3 OutOfRange`. `AllocError` where a growth was
-/// refused; `out` may then have a front of the line.
+/// Appends the line of a project's fault, as `project fault 3 OutOfRange`. `AllocError` if an allocation fails; then `out` may
+/// have a prefix of the line.
 pub fn push_project_fault(fault: ProjectFault, out: &mut String) -> Result<(), AllocError>
     ensures { OnOk result (string_bytes out.new ≡ string_bytes out.old ++ project_fault_text fault) }
 {
@@ -37,8 +37,8 @@ pub fn push_project_fault(fault: ProjectFault, out: &mut String) -> Result<(), A
     push_project_fault_words(fault, out)
 }
 
-/// Adds the line of a document that declares no group, as `declare fault 12 NotOneGroup`. `AllocError` where a growth was
-/// refused; `out` may then have a front of the line.
+/// Appends the line of a document that declares no group, as `declare fault 12 NotOneGroup`. `AllocError` if an allocation
+/// fails; then `out` may have a prefix of the line.
 fn push_declare_fault(fault: ProjectFault, out: &mut String) -> Result<(), AllocError>
     ensures { OnOk result (string_bytes out.new ≡ string_bytes out.old ++ declare_fault_text fault) }
 {
@@ -46,8 +46,8 @@ fn push_declare_fault(fault: ProjectFault, out: &mut String) -> Result<(), Alloc
     push_project_fault_words(fault, out)
 }
 
-/// The same of a fault that may be `Memory`: that one is answered as `AllocError`, and its line is the run's to write
-/// (`memory_refusal`).
+/// Appends the line of a document that declares no group. `AllocError` for the fault `Memory`, whose line the run writes
+/// (`memory_refusal`), and if an allocation fails.
 pub fn say_declare_fault(fault: ProjectFault, out: &mut String) -> Result<(), AllocError>
     ensures text { OnOk result (string_bytes out.new ≡ string_bytes out.old ++ declare_fault_text fault) }
     ensures other { OnOk result (fault ≢ project.Memory) }
@@ -58,7 +58,7 @@ pub fn say_declare_fault(fault: ProjectFault, out: &mut String) -> Result<(), Al
     push_declare_fault(fault, out)
 }
 
-/// Adds the fault's number and name, and the end of the line.
+/// Appends the fault's number and name, and the end of the line.
 #[tactic(auto, unfolding(crate::specs::Refusals::project_fault_words))]
 fn push_project_fault_words(fault: ProjectFault, out: &mut String) -> Result<(), AllocError>
     ensures { OnOk result (string_bytes out.new ≡ string_bytes out.old ++ project_fault_words fault) }
@@ -69,7 +69,7 @@ fn push_project_fault_words(fault: ProjectFault, out: &mut String) -> Result<(),
     out.push_str("\n")
 }
 
-/// Adds the name of the fault of a group that is none by itself, and the number of that fault.
+/// Appends the name of the fault of a group that is none by itself, and the number of that fault.
 fn push_bad_group(fault: ProjectFault, out: &mut String) -> Result<(), AllocError>
     ensures { OnOk result (string_bytes out.new ≡ string_bytes out.old ++ core_fault_name (BadGroup fault)) }
 {
@@ -77,7 +77,8 @@ fn push_bad_group(fault: ProjectFault, out: &mut String) -> Result<(), AllocErro
     write!(out, "BadGroup {number}")
 }
 
-/// Adds the name of a core's fault. A task, a number of owed blocks or a size in bytes follows it where the fault has one.
+/// Appends the name of a core's fault, and after it the task, the number of owed blocks or the size in bytes that the fault
+/// has.
 fn push_core_fault_name(fault: CoreFault, out: &mut String) -> Result<(), AllocError>
     ensures { OnOk result (string_bytes out.new ≡ string_bytes out.old ++ core_fault_name fault) }
 {
@@ -121,11 +122,12 @@ fn push_core_fault_name(fault: CoreFault, out: &mut String) -> Result<(), AllocE
             blocks,
             outside,
         } => write!(out, "Waits {task} {blocks} {outside}"),
+        CoreFault::UnderWay => out.push_str("UnderWay"),
     }
 }
 
-/// Adds the line of a refused command, as `refused 12 TooManyDatagrams 0`. `AllocError` where a growth
-/// was refused; `out` may then have a front of the line.
+/// Appends the line of a refused command, as `refused 12 TooManyDatagrams 0`. `AllocError` if an allocation fails; then `out`
+/// may have a prefix of the line.
 #[tactic(auto, unfolding(crate::specs::Refusals::refusal_text))]
 pub fn push_refusal(fault: CoreFault, out: &mut String) -> Result<(), AllocError>
     ensures { OnOk result (string_bytes out.new ≡ string_bytes out.old ++ refusal_text fault) }
@@ -136,8 +138,8 @@ pub fn push_refusal(fault: CoreFault, out: &mut String) -> Result<(), AllocError
     out.push_str("\n")
 }
 
-/// The same of a fault that may be `Memory`: that one is answered as `AllocError`, and its line is the run's to
-/// write (`memory_refusal`).
+/// Appends the line of a refused command. `AllocError` for the fault `Memory`, whose line the run writes (`memory_refusal`),
+/// and if an allocation fails.
 pub fn say_refusal(fault: CoreFault, out: &mut String) -> Result<(), AllocError>
     ensures text { OnOk result (string_bytes out.new ≡ string_bytes out.old ++ refusal_text fault) }
     ensures other { OnOk result (fault ≢ Memory) }
@@ -148,7 +150,7 @@ pub fn say_refusal(fault: CoreFault, out: &mut String) -> Result<(), AllocError>
     push_refusal(fault, out)
 }
 
-/// The line of a command that was refused a growth: it is there without another growth.
+/// Returns the line of a command for which an allocation failed. It is a constant, so no allocation is needed.
 #[tactic(auto, unfolding(crate::specs::Refusals::refusal_text))]
 pub fn memory_refusal() -> &'static [u8]
     ensures { result.now ≡ refusal_text Memory }
@@ -156,8 +158,8 @@ pub fn memory_refusal() -> &'static [u8]
     b"refused 28 Memory\n"
 }
 
-/// Adds the line about a line that is no command, as `line 9: bad command`. `AllocError` where a growth
-/// was refused; `out` may then have a front of the line.
+/// Appends the line about a line that is no command, as `line 9: bad command`. `AllocError` if an allocation fails; then `out`
+/// may have a prefix of the line.
 #[tactic(auto, unfolding(crate::specs::Refusals::bad_command_text))]
 pub fn push_bad_command(number: u32, out: &mut String) -> Result<(), AllocError>
     ensures { OnOk result (string_bytes out.new ≡ string_bytes out.old ++ bad_command_text number) }

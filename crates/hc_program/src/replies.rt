@@ -1,4 +1,4 @@
-//! The reply to one turn: to a command line, or to a declaration.
+//! The reply to one turn: a command line, or a declaration.
 ghost use Rattle.std.specs.Prelude.{◌≡◌, ◌++◌, IfErr, IfOk, OnOk, false, map, string_bytes};
 ghost use Rattle.hc_program.specs.Refusals.{bad_command_text};
 ghost use Rattle.hc_program.specs.Declaring.{turn_of};
@@ -16,18 +16,17 @@ use std::alloc::{AllocError, Global};
 use std::sync::Wait;
 use std::thread::Threads;
 
-/// What a turn prints, and whether the run goes on after it.
+/// The printed text of a turn, and whether the run continues.
 #[derive(Debug, Drop)]
 pub struct Reply {
-    /// What the turn prints.
+    /// The printed text.
     pub text: String,
-    /// Whether the run goes on; it ends at a line that is no command.
+    /// Whether the run continues. It ends at a line that is no command.
     pub goes_on: bool,
 }
 
-/// The reply to a turn; the session is then as the turn leaves it, and nothing is published yet. A `Stop` where a growth was
-/// refused, or a seat was given no view: nothing was then carried out, or a command of several calls was stopped
-/// (`StopsTurn`).
+/// Carries out a turn and returns its reply. Nothing is published yet. Returns a `Stop` if an allocation fails or a seat gets
+/// no view: nothing was then carried out, or a command of several calls was stopped (`StopsTurn`).
 pub fn answer<R: Threads + Wait + Sync>(
     rt: &R,
     alloc: Global,
@@ -44,7 +43,7 @@ pub fn answer<R: Threads + Wait + Sync>(
     Ok(Reply { text, goes_on })
 }
 
-/// Adds what a turn prints, and says whether the run goes on after it.
+/// Appends the printed text of a turn, and returns whether the run continues.
 #[tactic(auto, unfolding(crate::specs::Runs::bare_reply))]
 fn push_turn<R: Threads + Wait + Sync>(
     rt: &R,
@@ -77,7 +76,7 @@ fn push_turn<R: Threads + Wait + Sync>(
     }
 }
 
-/// Adds that a line is no command: the run ends after it.
+/// Appends that a line is no command; the run ends after it.
 fn push_no_command(number: u32, out: &mut String) -> Result<bool, AllocError>
     ensures text { OnOk result (string_bytes out.new ≡ string_bytes out.old ++ bad_command_text number) }
     ensures goes_on { IfOk result (λ goes_on. goes_on ≡ false) }
@@ -86,7 +85,7 @@ fn push_no_command(number: u32, out: &mut String) -> Result<bool, AllocError>
     Ok(false)
 }
 
-/// Adds what the words of a line print, and says whether the run goes on after it.
+/// Appends the printed text of a line's words, and returns whether the run continues.
 fn push_reply<R: Threads + Wait + Sync>(
     rt: &R,
     alloc: Global,

@@ -1,4 +1,4 @@
-//! What a run keeps between its lines.
+//! The session: the state of a run between its lines.
 ghost use Rattle.std.specs.Prelude.{◌≡◌, ◌<◌, IfErr, IfOk, None, OnErr, OnOk, Some, length};
 ghost use Rattle.hc_records.specs.declared.limits.TheConstants.{TASKS};
 ghost use Rattle.hc_records.specs.Lists.{lowest};
@@ -32,12 +32,12 @@ use std::marker::Model;
 use std::snapshot::Snapshot;
 use std::sync::Wait;
 
-/// The conductor of the project with the seats of its tasks, and the simulated line that its frames go along. It is not
-/// `Drop`: end it by `finish`. Contracts see where its run is.
+/// The conductor of the project with the seats of its tasks, and the simulated line along which its frames go. It is not
+/// `Drop`: end it by `finish`. Contracts see the state of its run.
 pub(crate) struct Session {
     master: Master,
     line: SimulatedLine,
-    // the core as it was when all was published last
+    // the core as it was when everything was last published
     seen: Snapshot<Core>,
 }
 
@@ -53,8 +53,8 @@ impl Model for Session {
 }
 
 impl Session {
-    /// Begins with a master at its opening and fresh machines. `AllocError` where a growth was refused: the master is ended
-    /// then.
+    /// Returns a session with a master at its opening and fresh machines. `AllocError` if an allocation fails; then the master
+    /// is ended.
     pub(crate) fn begin<R: Wait>(
         rt: &R,
         alloc: Global,
@@ -75,14 +75,14 @@ impl Session {
         }
     }
 
-    /// The core, for its readers.
+    /// Returns the core for reading.
     pub(crate) fn core(&self) -> &Core
         ensures { result.now.history ≡ self.now.history }
     {
         self.master.core()
     }
 
-    /// An edit of the line, answered and recorded as the core's `step` says; the machines are as they were.
+    /// Edits the line. The answer and the record are those of the core's `step`; the machines are unchanged.
     pub(crate) fn edit(&mut self, alloc: Global, edit: &Edit) -> Answer
         ensures answer { MayAnswer self.old.history (Edits edit.now) result self.new.history }
         ensures rest { self.new ≡ session_with_history self.old self.new.history }
@@ -90,7 +90,7 @@ impl Session {
         self.master.edit(alloc, edit)
     }
 
-    /// A frame arrived, any bytes, answered and recorded as the core's `step` says.
+    /// Hands in an arriving frame, any bytes. The answer and the record are those of the core's `step`.
     pub(crate) fn arrive(&mut self, alloc: Global, bytes: &[u8]) -> Answer
         ensures answer { MayAnswer self.old.history (Arrives bytes.now) result self.new.history }
         ensures rest { self.new ≡ session_with_history self.old self.new.history }
@@ -98,8 +98,8 @@ impl Session {
         self.master.arrive(alloc, bytes)
     }
 
-    /// The first owed register block is sent: its frame is at the front of `out`, and its size in bytes is
-    /// answered; or why it isn't sent, and then nothing changed. It takes no memory.
+    /// Sends the first owed register block, and returns the length of its frame, which is at the front of `out`, or the fault;
+    /// then nothing has changed. It allocates nothing.
     pub(crate) fn next_write(&mut self, out: &mut [u8]) -> Result<usize, CoreFault>
         ensures written { IfOk result (HoldsWrite self.old.history out.old out.new) }
         ensures accepted { OnOk result (lowest (write_into_faults self.old.history (length out.old)) ≡ None) }
@@ -110,7 +110,7 @@ impl Session {
         self.master.next_write(out)
     }
 
-    /// All frames of the present proposal are sent. It takes no memory.
+    /// Sends all frames of the present proposal. It allocates nothing.
     pub(crate) fn commit(&mut self, frames: &[Sending])
         requires { IsProposal self.old.history frames.now }
         ensures { self.new ≡ session_with_history self.old (with_sent self.old.history frames.now) }
@@ -118,7 +118,7 @@ impl Session {
         self.master.commit(frames);
     }
 
-    /// All posts that wait go to the core. It takes no memory.
+    /// Hands all posts that wait to the core. It allocates nothing.
     pub(crate) fn take(&mut self) -> Taken
         ensures next { self.new ≡ session_taken self.old }
         ensures counts { CountsPosts self.old.history (posts_taken self.old) result }
@@ -126,21 +126,21 @@ impl Session {
         self.master.take()
     }
 
-    /// A task, 0 to 7, views the variable with a number in what was published last: the epoch, and the variable's value
-    /// or why the task gets none; 0 is no variable's number. `NoEntry` where its seat was given no view. It takes no
-    /// memory.
+    /// Views the variable with a number as a task, 0 to 7, in what was published last: the epoch, and the variable's value or
+    /// the reason for which the task gets none. The number 0 is no variable's. It allocates nothing. Fails with `NoEntry` if
+    /// the task's seat gets no view.
     pub(crate) fn view(&mut self, task: u8, number: u32) -> Result<Viewed, NoEntry>
         requires { task < TASKS }
         ensures viewed { IfOk result (IsViewAfter self.old.seen task number) }
         ensures same { self.new ≡ self.old }
     {
-        // what is shown is what the record has that was published last
+        // the shown state is that of the record that was published last
         shows_what_is_read();
         self.master.view(task, number)
     }
 
-    /// Publishes what the core accepted so far, and each seat learns it. `AllocError` where a growth was refused: what
-    /// tasks view is then as it was, and the next publishing goes on where this one stopped.
+    /// Publishes everything that the core accepted so far, and each seat learns it. `AllocError` if an allocation fails: the
+    /// tasks' views are unchanged, and the next publishing continues.
     pub(crate) fn publish<R: Wait>(&mut self, rt: &R, alloc: Global) -> Result<(), AllocError>
         ensures next { OnOk result (self.new ≡ session_published self.old) }
         ensures unchanged { OnErr result (self.new ≡ self.old) }
@@ -152,7 +152,7 @@ impl Session {
         Ok(())
     }
 
-    /// Ends the session, its only end. Posts that wait are dropped.
+    /// Ends the session; it has no other end. Posts that wait are dropped.
     pub(crate) fn finish<R: Wait>(self, rt: &R) {
         let Session {
             master,

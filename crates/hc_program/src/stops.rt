@@ -1,4 +1,4 @@
-//! Why a command is stopped.
+//! Reasons for which a command is stopped.
 ghost use Rattle.std.specs.Prelude.{◌≡◌};
 ghost use Rattle.hc_program.specs.Stops.{chain_fault_text, no_entry_text, stop_text, refused_growth_text};
 
@@ -7,21 +7,21 @@ use hc_conductor::one_thread::refusals::NoEntry;
 use hc_segment::ChainFault;
 use std::alloc::AllocError;
 
-/// Where a growth was refused.
+/// The place of a failed allocation.
 #[derive(Clone, Copy, Debug, PartialEq, Eq)]
 pub enum RefusedGrowth {
-    /// For the command itself.
+    /// In the command itself.
     Memory,
-    /// For frames to go along the line.
+    /// In passing frames along the line.
     Chain(ChainFault),
 }
 
-/// Why a command is stopped.
+/// The reason for which a command is stopped.
 #[derive(Clone, Copy, Debug, PartialEq, Eq)]
 pub enum Stop {
-    /// A growth was refused.
+    /// An allocation failed.
     RefusedGrowth(RefusedGrowth),
-    /// A seat was given no view: no entry, which no run meets.
+    /// A seat got no view: there is no entry. It never occurs in practice.
     NoEntry,
 }
 
@@ -81,7 +81,7 @@ impl From<NoEntry> for Stop {
     }
 }
 
-/// The line of a chain that was refused: it is there without a growth.
+/// Returns the line of a chain that failed. It is a constant, so no allocation is needed.
 #[tactic(auto, unfolding(crate::specs::Stops::chain_fault_text))]
 fn chain_refusal(fault: ChainFault) -> &'static [u8]
     ensures { result.now ≡ chain_fault_text fault }
@@ -91,7 +91,7 @@ fn chain_refusal(fault: ChainFault) -> &'static [u8]
     }
 }
 
-/// The line of a growth that was refused: it is there without another.
+/// Returns the line of a failed allocation. It is a constant, so no allocation is needed.
 fn refused_growth_line(refused_growth: RefusedGrowth) -> &'static [u8]
     ensures { result.now ≡ refused_growth_text refused_growth }
 {
@@ -101,7 +101,7 @@ fn refused_growth_line(refused_growth: RefusedGrowth) -> &'static [u8]
     }
 }
 
-/// The line of a view that was not given: it is there without a growth.
+/// Returns the line of a seat without a view. It is a constant, so no allocation is needed.
 #[tactic(auto, unfolding(crate::specs::Stops::no_entry_text))]
 fn no_entry_line() -> &'static [u8]
     ensures { result.now ≡ no_entry_text }
@@ -109,7 +109,7 @@ fn no_entry_line() -> &'static [u8]
     b"refused 7 NoEntry\n"
 }
 
-/// The line that says why: it is there without a growth.
+/// Returns the line of a stop. It is a constant, so no allocation is needed.
 pub fn stop_line(stop: Stop) -> &'static [u8]
     ensures { result.now ≡ stop_text stop }
 {

@@ -24,7 +24,7 @@ pub enum Turn<'a> {
     Declares {
         /// Its number.
         number: u32,
-        /// The bytes between it and the line `%%` after it, as they are; none where no line is that.
+        /// The bytes between it and the line `%%` after it, unchanged; `None` if no later line is `%%`.
         document: Option<&'a [u8]>,
     },
 }
@@ -34,13 +34,13 @@ pub enum Turn<'a> {
 pub struct CutTurn<'a> {
     /// The turn.
     pub turn: Turn<'a>,
-    /// The lines after it; none where nothing follows it.
+    /// The lines after it; `None` if nothing follows it.
     pub after_it: Option<&'a [u8]>,
     /// The number of the first of them.
     pub first: u32,
 }
 
-/// Whether a line is one word, `declare`.
+/// Returns whether a line is the one word `declare`.
 fn is_declare(line: &[u8]) -> bool
     ensures { result ≡ is_declare line.now }
 {
@@ -50,7 +50,7 @@ fn is_declare(line: &[u8]) -> bool
     }
 }
 
-/// The declaration of a line with this number, and what follows its document.
+/// Returns the declaration of a line with this number, and the lines after its document.
 fn split_declaration(number: u32, lines: Option<&[u8]>) -> CutTurn<'_>
     requires { number + 1 + left_in (option_copied lines) ≤ MOST_INPUT + 2 }
     ensures turn { turn_of result.turn ≡ Declares number (closed_text (lines_after (number + 1) (option_copied lines.entry))) }
@@ -78,7 +78,7 @@ fn split_declaration(number: u32, lines: Option<&[u8]>) -> CutTurn<'_>
     }
 }
 
-/// Cuts the first turn from command lines, from a number on.
+/// Cuts the first turn from command lines, from a line number on.
 pub fn split_turn(lines: &[u8], number: u32) -> CutTurn<'_>
     requires { number + left_in (Some lines.now) ≤ MOST_INPUT + 2 }
     ensures turn { turns_of (lines_after number (Some lines.now)) ≡ turn_of result.turn ∷ turns_of (lines_after result.first (option_copied result.after_it)) }

@@ -13,12 +13,9 @@ pub or-right : (a b : Bool) → (a || b) ≡ false → b ≡ false
 or-right true b none = cc
 or-right false b none = none
 
--- what lies inside a range or a length also fits what holds it
-pub byte-inside : (low high n : ℕ) → high ≤ 255 → is_outside low high n ≡ false → nat_lt 255 n ≡ false
-byte-inside low high n small inside = grind (arith, nat_tests)
-
-pub word-inside : (low high n : ℕ) → high ≤ 65535 → is_outside low high n ≡ false → nat_lt 65535 n ≡ false
-word-inside low high n small inside = grind (arith, nat_tests)
+-- what lies inside a length or a range
+pub at-most : (most n : ℕ) → nat_lt most n ≡ false → n ≤ most
+at-most most n few = grind (arith, nat_tests)
 
 pub few-inside : (most n : ℕ) → nat_lt most n ≡ false → is_outside 0 most n ≡ false
 few-inside most n few = grind (arith, nat_tests)
@@ -26,13 +23,10 @@ few-inside most n few = grind (arith, nat_tests)
 pub some-inside : (most n : ℕ) → (n == 0) ≡ false → nat_lt most n ≡ false → is_outside 1 most n ≡ false
 some-inside most n some few = grind (arith, nat_tests)
 
-pub manager-held : (n : ℕ) → nat_lt 15 n ≡ false → nat_lt 255 n ≡ false
-manager-held n inside = grind (arith, nat_tests)
+pub task-inside-7 : (n : ℕ) → not (nat_lt n 8) ≡ false → is_outside 0 7 n ≡ false
+task-inside-7 n inside = grind (arith, nat_tests)
 
-pub task-held : (n : ℕ) → not (nat_lt n 8) ≡ false → nat_lt 255 n ≡ false
-task-held n inside = grind (arith, nat_tests)
-
-pub variable-inside : (v : ℕ) → is_outside 1 4294967295 v ≡ false → nat_lt 4294967295 v ≡ false
+pub variable-inside : (v : ℕ) → is_outside 1 4294967295 v ≡ false → is_outside 0 4294967295 v ≡ false
 variable-inside v inside = grind (arith, nat_tests)
 
 pub variable-named : (v : ℕ) → is_outside 1 4294967295 v ≡ false → variable_of v ≡ Some v

@@ -1,5 +1,6 @@
 -- The lowest fault of what was read has a place in its document.
 use Rattle.std.proofs.Common.{◌≡◌, ◌||◌, Bool, true, false, if◌then◌else◌, List, [], ◌∷◌, Option, Some, None, Err, refl}
+use Rattle.std.specs.Prelude.{is_some}
 use Rattle.std.proofs.lemmas.Bool.{or_left, or_right}
 use Rattle.toml.specs.Data.{Data}
 use Rattle.hc_records.specs.declared.records.Group.{Group}
@@ -7,18 +8,20 @@ use Rattle.hc_records.specs.declared.faults.ProjectFault.{ProjectFault}
 use Rattle.hc_records.specs.declared.faults.ProjectFault.TheVariants as fault
 use Rattle.hc_records.specs.Lists.{lowest}
 use Rattle.hc_records.specs.Project.{has_outside, has_overlap, has_repeated_alias, has_repeated_station, has_repeated_variable, has_unknown_pdo, is_wide, repeats_sync_manager, some_area, some_slave}
+use Rattle.hc_project.specs.declared.places.Location.{Location}
 use Rattle.hc_project.specs.declared.reading.Reading.{Reading}
 use Rattle.hc_project.specs.Levels.{declared_groups}
 use Rattle.hc_project.specs.Located.{location_of}
 use Rattle.hc_project.specs.Text.{reading_faults, groups_or_fault, unless_refused}
-use Rattle.hc_project.proofs.FlawlessDocument.{document_missing, document_outside}
+use Rattle.hc_project.proofs.Inspected.{groups_inside}
+use Rattle.hc_project.proofs.Joined.{without}
 use Rattle.hc_project.proofs.Placed.{aliases_none, managers_none, overlaps_none, stations_none, unknown_none, variables_none, wide_none}
 
 -- the condition of a fault, over what was read
 abbrev condition : Reading (List Group) → ProjectFault → Bool
 condition read fault.NotToml = false
-condition read fault.MissingField = read.syntax_faults.missing
-condition read fault.OutOfRange = read.syntax_faults.outside || has_outside read.value
+condition read fault.MissingField = is_some read.syntax_faults.missing
+condition read fault.OutOfRange = is_some read.syntax_faults.outside || has_outside read.value
 condition read fault.RepeatedAlias = has_repeated_alias read.value
 condition read fault.RepeatedStation = has_repeated_station read.value
 condition read fault.RepeatedSyncManager = some_slave repeats_sync_manager read.value
@@ -53,9 +56,9 @@ judges : (read : Reading (List Group)) → Judges (condition read) (reading_faul
 judges read = (
   λ held. held,
   (
-    or_left read.syntax_faults.outside (has_outside read.value),
+    or_left (is_some read.syntax_faults.outside) (has_outside read.value),
     (
-      or_right read.syntax_faults.outside (has_outside read.value),
+      or_right (is_some read.syntax_faults.outside) (has_outside read.value),
       (λ held. held, (λ held. held, (λ held. held, (λ held. held, (λ held. held, (λ held. held, (λ held. held, tt))))))),
     ),
   ),
@@ -65,26 +68,35 @@ refused : (found : Option ProjectFault) (groups : List Group) (lowest_one : Proj
 refused None groups lowest_one is = cc
 refused (Some found) groups lowest_one is = cc
 
-unmet : (lowest_one : ProjectFault) (d : Data) → location_of lowest_one d ≡ None → condition (declared_groups d) lowest_one ≡ false
-unmet fault.NotToml d none = refl
-unmet fault.MissingField d none = document_missing d none
-unmet fault.OutOfRange d none = let parts = document_outside d none in rw (parts.0, parts.1) refl
-unmet fault.RepeatedAlias d none = aliases_none (declared_groups d).value none
-unmet fault.RepeatedStation d none = stations_none (declared_groups d).value none
-unmet fault.RepeatedSyncManager d none = managers_none (declared_groups d).value none
-unmet fault.OverlappingAreas d none = overlaps_none (declared_groups d).value none
-unmet fault.RepeatedVariable d none = variables_none (declared_groups d).value none
-unmet fault.UnknownPdo d none = unknown_none (declared_groups d).value none
-unmet fault.AreaTooBig d none = wide_none (declared_groups d).value none
-unmet fault.Memory d none = refl
-unmet fault.NotOneGroup d none = refl
+-- where a value outside its range is the lowest fault, nothing is missing
+none_missing : (missing : Option Location) (others : Option ProjectFault) (groups : List Group)
+    → unless_refused (if is_some missing then Some fault.MissingField else others) groups ≡ Err fault.OutOfRange → missing ≡ None
+none_missing None others groups is = refl
+none_missing (Some location) others groups is = cc
+
+unmet : (lowest_one : ProjectFault) (d : Data) → groups_or_fault (declared_groups d) ≡ Err lowest_one → location_of lowest_one (declared_groups d) ≡ None
+    → condition (declared_groups d) lowest_one ≡ false
+unmet fault.NotToml d is none = refl
+unmet fault.MissingField d is none = rw none refl
+unmet fault.OutOfRange d is none =
+    let inside = groups_inside d (without (declared_groups d).syntax_faults (none_missing _ _ _ is) none) in
+    rw (none, inside) refl
+unmet fault.RepeatedAlias d is none = aliases_none (declared_groups d).value none
+unmet fault.RepeatedStation d is none = stations_none (declared_groups d).value none
+unmet fault.RepeatedSyncManager d is none = managers_none (declared_groups d).value none
+unmet fault.OverlappingAreas d is none = overlaps_none (declared_groups d).value none
+unmet fault.RepeatedVariable d is none = variables_none (declared_groups d).value none
+unmet fault.UnknownPdo d is none = unknown_none (declared_groups d).value none
+unmet fault.AreaTooBig d is none = wide_none (declared_groups d).value none
+unmet fault.Memory d is none = refl
+unmet fault.NotOneGroup d is none = refl
 
 both-ways : (b : Bool) → b ≡ true → b ≡ false → ⊥
 both-ways b held unheld = cc
 
 -- a fault that is the lowest has a place
-pub placed : (lowest_one : ProjectFault) (d : Data) → groups_or_fault (declared_groups d) ≡ Err lowest_one → location_of lowest_one d ≡ None → ⊥
+pub placed : (lowest_one : ProjectFault) (d : Data) → groups_or_fault (declared_groups d) ≡ Err lowest_one → location_of lowest_one (declared_groups d) ≡ None → ⊥
 placed lowest_one d is none =
     both-ways (condition (declared_groups d) lowest_one)
     (lowest_meets (condition (declared_groups d)) (reading_faults (declared_groups d)) lowest_one (judges (declared_groups d)) (refused _ _ _ is))
-    (unmet lowest_one d none)
+    (unmet lowest_one d is none)

@@ -5,13 +5,13 @@ pub documents-keys : DocumentsReadTheirKeys
 documents-keys a b slaves groups = cc
 
 pub groups-keys : GroupsReadTheirKeys
-groups-keys a b alias slaves = cc
+groups-keys room index a b alias slaves = cc
 
 pub slaves-keys : SlavesReadTheirKeys
-slaves-keys a b station areas = cc
+slaves-keys most place index a b station areas = cc
 
 pub areas-keys : AreasReadTheirKeys
-areas-keys a b sm dir phys task assigned offered = cc
+areas-keys most place index a b sm dir phys task assigned offered = cc
 
 pub pdos-keys : PdosReadTheirKeys
-pdos-keys a b index entries = cc
+pdos-keys most place number a b index entries = cc

@@ -1,9 +1,8 @@
-mod Counted
 mod Earlier
 mod Searched
-mod Flawless
-mod FlawlessLevels
-mod FlawlessDocument
+mod Joined
+mod Areas
+mod Inspected
 mod Names
 mod Duplicates
 mod Placed

@@ -90,7 +90,7 @@ unknown_of place index area none =
     no_pair (λ earlier later. later == earlier) area.assigned (assigned_unknown area here) (unknown_says area here) assigned in
     let offered : some_pair same_index area.offered ≡ false =
     sym (unmapped (λ earlier later. later == earlier) (λ pdo. pdo.index) area.offered)
-    ∙ repeats_none _ _ (named_single (offered_at here) (λ pdo. pdo.index) 0 area.offered (λ i pdo. refl)) (none_left _ _ (none_right _ _ none)) in
+    ∙ repeats_none _ _ (named_single (offered_at here) (λ pdo. pdo.index) 0 area.offered (λ i pdo. refl)) (none_right _ _ none) in
     rw (known, once, offered) refl
 
 pub unknown_none : (groups : List Group) → first_from (in_slaves (in_areas area_unknown) document) 0 groups ≡ None → some_area has_unknown_pdo groups ≡ false

@@ -1,13 +1,7 @@
 -- Where a search finds nothing, none of its parts does.
-use Rattle.std.proofs.Common.{◌≡◌, ℕ, suc, Bool, true, false, List, [], ◌∷◌, Option, Some, None, refl}
-use Rattle.std.specs.Prelude.{if◌then◌else◌}
+use Rattle.std.proofs.Common.{◌≡◌, ℕ, suc, Bool, false, List, [], ◌∷◌, Option, Some, None, refl}
 use Rattle.std.specs.List.{list_any}
-use Rattle.hc_records.proofs.lemmas.Finds.{none-by}
-use Rattle.hc_project.specs.declared.flawed.SyntaxFault.{SyntaxFault}
-use Rattle.hc_project.specs.declared.places.Place.{Place}
-use Rattle.hc_project.specs.declared.reading.SyntaxFaults.{SyntaxFaults}
-use Rattle.hc_project.specs.Places.{first_from, first_some, place_alone}
-use Rattle.hc_project.specs.Flawed.{syntax_fault_at, shows}
+use Rattle.hc_project.specs.Places.{first_from, first_some}
 
 pub none_left : {P : Type 0} (a b : Option P) → first_some a b ≡ None → a ≡ None
 unfolding first_some
@@ -18,14 +12,6 @@ pub none_right : {P : Type 0} (a b : Option P) → first_some a b ≡ None → b
 unfolding first_some
 none_right None b none = none
 none_right (Some x) b none = cc
-
-untested : {P : Type 0} (test : Bool) (x : P) (rest : Option P) → (if test then Some x else rest) ≡ None → test ≡ false
-untested true x rest none = cc
-untested false x rest none = refl
-
-pub flawless : (which : SyntaxFault) (place : Place) (syntax_faults : SyntaxFaults) → syntax_fault_at which place syntax_faults ≡ None → shows which syntax_faults ≡ false
-unfolding syntax_fault_at
-flawless which place syntax_faults none = untested (shows which syntax_faults) (place_alone place) None none
 
 -- a test that each item where nothing is found doesn't meet is met by none
 pub none_meets : {X P : Type 0} (find : ℕ → X → Option P) (test : X → Bool) (index : ℕ) (xs : List X)

@@ -1,5 +1,5 @@
--- What follows from the definitions, so that a reader can trust them. Each is the contract of a function of `laws`.
-use Rattle.std.specs.Prelude.{◌≡◌, ℕ, ℤ, pos, negsuc, ◌≤◌, ◌||◌, nat_lt, unwrap_or, Bool, true, false, List, [], ◌∷◌, map, Some, None, Ok, codes}
+-- Laws of project text. Each is the contract of a function of `laws`.
+use Rattle.std.specs.Prelude.{◌≡◌, ℕ, ℤ, pos, ◌≤◌, ◌||◌, nat_lt, is_some, unwrap_or, Bool, false, List, [], ◌∷◌, map, Some, None, Ok, codes}
 use Rattle.std.specs.Option.{option_map_or}
 use Rattle.std.specs.List.{list_any}
 use Rattle.toml.specs.Data.{Data, string, integer, array, table, no_items, item, Members, no_members, member, get}
@@ -12,21 +12,18 @@ use Rattle.hc_records.specs.declared.records.Slave.{Slave}
 use Rattle.hc_records.specs.declared.records.Group.{Group}
 use Rattle.hc_records.specs.Area.{Entry}
 use Rattle.hc_records.specs.Project.{is_outside, lowest_fault}
-use Rattle.hc_project.specs.Values.{number}
+use Rattle.hc_project.specs.declared.places.Place.{Place}
+use Rattle.hc_project.specs.Values.{lies_outside, number}
 use Rattle.hc_project.specs.Levels.{pdo, area, slave, group, declared_groups}
 use Rattle.hc_project.specs.Text.{project_of}
 
--- an integer lies outside a range
-abbrev pub lies_outside : ℕ → ℕ → ℤ → Bool
-lies_outside low high (pos n) = is_outside low high n
-lies_outside low high (negsuc n) = true
-
--- what reading refuses because it doesn't fit, with what the range of every project refuses afterwards, is what lies
--- outside the range
+-- the numbers that reading refuses, with those that the range of every project refuses afterwards, are exactly those outside
+-- the range
 abbrev pub RangesAreJudgedWhole : Type 0
 RangesAreJudgedWhole =
-    (most low high : ℕ) (z : ℤ) → high ≤ most
-    → ((number most (Some (integer z))).syntax_faults.outside || is_outside low high (number most (Some (integer z))).value)
+    (most low high : ℕ) (place : Place) (z : ℤ) → high ≤ most
+    → (is_some (number most low high place (Some (integer z))).syntax_faults.outside
+    || is_outside low high (number most low high place (Some (integer z))).value)
     ≡ lies_outside low high z
 
 -- two values hold the same at a key
@@ -40,28 +37,37 @@ DocumentsReadTheirKeys =
 
 -- values that agree at `alias` and `slave` are read as the same group, with the same faults
 abbrev pub GroupsReadTheirKeys : Type 0
-GroupsReadTheirKeys = (a b : Data) → AgreeAt (codes "alias") a b → AgreeAt (codes "slave") a b → group a ≡ group b
+GroupsReadTheirKeys =
+    (room index : ℕ) (a b : Data) → AgreeAt (codes "alias") a b → AgreeAt (codes "slave") a b → group room index a ≡ group room index b
 
 -- values that agree at `station` and `area` are read as the same slave, with the same faults
 abbrev pub SlavesReadTheirKeys : Type 0
-SlavesReadTheirKeys = (a b : Data) → AgreeAt (codes "station") a b → AgreeAt (codes "area") a b → slave a ≡ slave b
+SlavesReadTheirKeys =
+    (most : ℕ) (place : Place) (index : ℕ) (a b : Data)
+    → AgreeAt (codes "station") a b
+    → AgreeAt (codes "area") a b
+    → slave most place index a ≡ slave most place index b
 
 -- values that agree at `sm`, `dir`, `phys`, `task`, `assigned` and `pdo` are read as the same area, with the same
 -- faults
 abbrev pub AreasReadTheirKeys : Type 0
 AreasReadTheirKeys =
-    (a b : Data)
+    (most : ℕ) (place : Place) (index : ℕ) (a b : Data)
     → AgreeAt (codes "sm") a b
     → AgreeAt (codes "dir") a b
     → AgreeAt (codes "phys") a b
     → AgreeAt (codes "task") a b
     → AgreeAt (codes "assigned") a b
     → AgreeAt (codes "pdo") a b
-    → area a ≡ area b
+    → area most place index a ≡ area most place index b
 
 -- values that agree at `index` and `entries` are read as the same PDO, with the same faults
 abbrev pub PdosReadTheirKeys : Type 0
-PdosReadTheirKeys = (a b : Data) → AgreeAt (codes "index") a b → AgreeAt (codes "entries") a b → pdo a ≡ pdo b
+PdosReadTheirKeys =
+    (most : ℕ) (place : Place) (index : ℕ) (a b : Data)
+    → AgreeAt (codes "index") a b
+    → AgreeAt (codes "entries") a b
+    → pdo most place index a ≡ pdo most place index b
 
 -- a project as a tree, its keys in the order of a TOML table
 abbrev pub array_by : {X : Type 0} → (X → Data) → List X → Data
@@ -108,7 +114,8 @@ group_tree group =
     table (member (codes "alias") (number_tree group.alias)
     (member (codes "slave") (array_by slave_tree group.slaves) no_members))
 
--- the keys of a project's document: `group`, the groups after the first, and `slave`, the slaves of the first, whose alias isn't written; of no groups there are no keys
+-- the keys of a project's document: `group`, the groups after the first, and `slave`, the slaves of the first, whose alias is
+-- not written; without groups there are no keys
 abbrev pub project_tree : List Group → Members
 project_tree [] = no_members
 project_tree (mandatory ∷ others) =
@@ -119,7 +126,7 @@ project_tree (mandatory ∷ others) =
 abbrev pub variable_unheld : ℕ → Bool
 variable_unheld variable = is_outside 1 4294967295 variable
 
--- the entry's variable is unheld (`variable_unheld`); a gap's isn't, and the bits aren't judged
+-- the entry's variable is unheld (`variable_unheld`); a gap's never is, and the bits are not judged
 abbrev pub entry_unheld : Entry → Bool
 entry_unheld entry = option_map_or variable_unheld entry.0 false
 
@@ -131,7 +138,7 @@ word_unheld n = nat_lt 65535 n
 abbrev pub pdo_unheld : Pdo → Bool
 pdo_unheld pdo = word_unheld pdo.index || list_any entry_unheld pdo.entries
 
--- an assigned index is over 65,535, or one of the offered PDOs is unheld (`pdo_unheld`); its other numbers aren't judged
+-- an assigned index is over 65,535, or one of the offered PDOs is unheld (`pdo_unheld`); its other numbers are not judged
 abbrev pub area_unheld : Area → Bool
 area_unheld area = list_any word_unheld area.assigned || list_any pdo_unheld area.offered
 

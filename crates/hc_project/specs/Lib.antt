@@ -1,9 +1,8 @@
+pub mod Places
 pub mod Reading
 pub mod Values
 pub mod Arrays
 pub mod Levels
-pub mod Places
-pub mod Flawed
 pub mod Repeated
 pub mod Text
 pub mod Located

@@ -1,21 +1,20 @@
--- Where a text is no project.
+-- The location of a text's fault.
 use Rattle.std.specs.Prelude.{◌≡◌, ℕ, ◌+◌, ◌==◌, ◌≤◌, ◌&&◌, nat_le, nat_lt, if◌then◌else◌, List, [], ◌∷◌, length, take, Option, Some, None, Err, IsOk}
 use Rattle.toml.specs.Data.{Data, Members, table}
 use Rattle.toml.specs.Parse.{parse_document}
 use Rattle.hc_records.specs.declared.records.Group.{Group}
 use Rattle.hc_records.specs.declared.faults.ProjectFault.{ProjectFault}
 use Rattle.hc_records.specs.declared.faults.ProjectFault.TheVariants as fault
-use Rattle.hc_project.specs.declared.flawed.SyntaxFault.TheVariants.{Missing, Outside}
 use Rattle.hc_project.specs.declared.located.Found.{Found}
 use Rattle.hc_project.specs.declared.located.Found.TheVariants.{InText, InProject}
 use Rattle.hc_project.specs.declared.places.Location.{Location}
+use Rattle.hc_project.specs.declared.reading.Reading.{Reading}
 use Rattle.hc_project.specs.Places.{document, first_from}
-use Rattle.hc_project.specs.Flawed.{document_syntax_fault}
 use Rattle.hc_project.specs.Repeated.{alias_at, area_unknown, area_wide, areas_overlapping, each_at, first_repeat, group_variables, in_areas, in_slaves, managers_repeated, stations_at}
 use Rattle.hc_project.specs.Levels.{declared_groups}
 use Rattle.hc_project.specs.Text.{project_in, groups_or_fault}
 
--- the first place in the groups that were read where a fault's condition holds
+-- the first place in the groups that were read at which a fault's condition holds
 abbrev pub group_location : ProjectFault → List Group → Option Location
 group_location fault.RepeatedAlias groups = first_repeat (each_at (alias_at document) 0 groups)
 group_location fault.RepeatedStation groups = first_repeat (each_at (stations_at document) 0 groups)
@@ -26,11 +25,11 @@ group_location fault.UnknownPdo groups = first_from (in_slaves (in_areas area_un
 group_location fault.AreaTooBig groups = first_from (in_slaves (in_areas area_wide) document) 0 groups
 group_location _ groups = None
 
--- the first place in a document where a fault's condition holds
-abbrev pub location_of : ProjectFault → Data → Option Location
-location_of fault.MissingField d = document_syntax_fault Missing d
-location_of fault.OutOfRange d = document_syntax_fault Outside d
-location_of other d = group_location other (declared_groups d).value
+-- the first place in the text that was read at which a fault's condition holds
+abbrev pub location_of : ProjectFault → Reading (List Group) → Option Location
+location_of fault.MissingField groups = groups.syntax_faults.missing
+location_of fault.OutOfRange groups = groups.syntax_faults.outside
+location_of other groups = group_location other groups.value
 
 -- the line and the column after a text that begins at a line and a column, both counted from 1: a line feed ends a line,
 -- and a byte that continues a character is of the column of its first
@@ -46,20 +45,20 @@ pub record IsUnread (text : List ℕ) (line column : ℕ) : Type 0 where
   pub refused : project_in text ≡ Err fault.NotToml
   pub within : (front : ℕ) × (front ≤ length text) × ((line, column) ≡ position_from (1, 1) (take front text))
 
--- a text has the fault, which is its lowest, and the place is the first in its document where the fault's condition holds
+-- a text has the fault, which is its lowest, and the place is the first in its document at which the fault's condition holds
 pub record IsFaulty (text : List ℕ) (lowest : ProjectFault) (location : Location) : Type 0 where
   pub refused : project_in text ≡ Err lowest
-  pub placed : (members : Members) × (parse_document text ≡ Some members) × (location_of lowest (table members) ≡ Some location)
+  pub placed : (members : Members) × (parse_document text ≡ Some members) × (location_of lowest (declared_groups (table members)) ≡ Some location)
 
--- what is said of a text: nothing of a project, else its lowest fault and where it is
+-- the report on a text: nothing for a project, else its lowest fault and its place
 abbrev pub LocatesFault : List ℕ → Option Found → Type 0
 LocatesFault text None = IsOk (project_in text)
 LocatesFault text (Some (InText line column)) = IsUnread text line column
 LocatesFault text (Some (InProject lowest location)) = IsFaulty text lowest location
 
--- the same of the document that a text is read as
+-- the report on a document: nothing for a project, else its lowest fault and its place
 abbrev pub SaysOf : Data → Option Found → Type 0
 SaysOf d None = IsOk (groups_or_fault (declared_groups d))
 SaysOf d (Some (InText line column)) = ⊥
 SaysOf d (Some (InProject lowest location)) =
-    (groups_or_fault (declared_groups d) ≡ Err lowest) × (location_of lowest d ≡ Some location)
+    (groups_or_fault (declared_groups d) ≡ Err lowest) × (location_of lowest (declared_groups d) ≡ Some location)

@@ -13,19 +13,19 @@ document = record { group = 0; alias = 0; slave = None; station = 0; area = None
 abbrev pub in_group : Place → ℕ → ℕ → Place
 in_group place group alias = record place { group = group; alias = alias }
 
--- a slave there, by its index and its station address
+-- a slave of a group, by its index and its station address
 abbrev pub in_slave : Place → ℕ → ℕ → Place
 in_slave place index station = record place { slave = Some index; station = station }
 
--- an area of that slave
+-- an area of a slave, by its index
 abbrev pub in_area : Place → ℕ → Place
 in_area place index = record place { area = Some index }
 
--- a PDO that the area offers
+-- a PDO that an area offers, by its index
 abbrev pub in_pdo : Place → ℕ → Place
 in_pdo place index = record place { pdo = Some index }
 
--- a key there
+-- a key of a table
 abbrev pub with_key : Place → Key → Place
 with_key place key = record place { key = key }
 
@@ -37,17 +37,12 @@ place_alone place = record { place = place; first = None }
 abbrev pub pair : Place → Place → Location
 pair first place = record { place = place; first = Some first }
 
--- the first, where it was found, else the second
+-- the first place if there is one, else the second
 unfoldable pub first_some : {P : Type 0} → Option P → Option P → Option P
 first_some None other = other
 first_some (Some found) other = Some found
 
--- the first of several that was found
-abbrev pub first_found : {P : Type 0} → List (Option P) → Option P
-first_found [] = None
-first_found (found ∷ rest) = first_some found (first_found rest)
-
--- the first item, from an index on, where something is found
+-- the place in the first item, from an index on, in which one is found
 abbrev pub first_from : {X P : Type 0} → (ℕ → X → Option P) → ℕ → List X → Option P
 first_from find index [] = None
 first_from find index (x ∷ xs) = first_some (find index x) (first_from find (suc index) xs)

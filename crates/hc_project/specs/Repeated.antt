@@ -1,5 +1,5 @@
--- Where a project repeats a name or lets areas overlap, and where an area assigns what it can't: what holds of the
--- groups that were read, in the order of the text.
+-- Repeated names, overlapping areas, and assigned PDOs that cannot be, among the groups that were read, in the order of the
+-- text.
 use Rattle.std.specs.Prelude.{ℕ, ◌+◌, ◌==◌, ◌&&◌, not, nat_lt, Bool, if◌then◌else◌, List, [], ◌∷◌, ◌++◌, find, option_map, take, Option, Some, None}
 use Rattle.hc_records.specs.declared.limits.TheConstants.{MOST_AREA_BITS}
 use Rattle.hc_records.specs.declared.records.Pdo.{Pdo}
@@ -12,7 +12,7 @@ use Rattle.hc_project.specs.declared.repeats.Extent.{Extent}
 use Rattle.hc_project.specs.declared.places.Key.TheVariants as key
 use Rattle.hc_project.specs.declared.places.Place.{Place}
 use Rattle.hc_project.specs.declared.places.Location.{Location}
-use Rattle.hc_project.specs.Places.{document, first_from, first_found, in_area, in_group, in_pdo, in_slave, pair, place_alone, with_key}
+use Rattle.hc_project.specs.Places.{document, first_from, first_some, in_area, in_group, in_pdo, in_slave, pair, place_alone, with_key}
 
 -- the place of a group; the mandatory one has number 0
 abbrev pub group_at : ℕ → Group → Place
@@ -22,17 +22,17 @@ group_at index group = in_group document index group.alias
 abbrev pub group_slave_place : Place → ℕ → Slave → Place
 group_slave_place place index slave = in_slave place index slave.station
 
--- what each item of a list gives, in order, each by its index
+-- the results of the items of a list, in order, each by its index
 abbrev pub each_at : {X Y : Type 0} → (ℕ → X → List Y) → ℕ → List X → List Y
 each_at gives index [] = []
 each_at gives index (x ∷ xs) = gives index x ++ each_at gives (index + 1) xs
 
--- the places of a member and of the earliest one before it that is so related to it
+-- the places of a member and of the earliest one before it that is related to it
 abbrev pub related_at : {X : Type 0} → (X → X → Bool) → List (Place × X) → ℕ → Place × X → Option Location
 related_at related list index x =
     option_map (λ earlier. pair earlier.0 x.0) (find (λ earlier. related earlier.1 x.1) (take index list))
 
--- the first member to which an earlier one is so related
+-- the first member to which an earlier one is related
 abbrev pub first_related : {X : Type 0} → (X → X → Bool) → List (Place × X) → Option Location
 first_related related list = first_from (related_at related list) 0 list
 
@@ -40,7 +40,7 @@ first_related related list = first_from (related_at related list) 0 list
 abbrev pub first_repeat : List (Place × ℕ) → Option Location
 first_repeat list = first_related (λ earlier later. later == earlier) list
 
--- the numbers of a project with their places: the alias of a group
+-- the numbers of a project with their places; here the alias of a group
 abbrev pub alias_at : Place → ℕ → Group → List (Place × ℕ)
 alias_at place index group = (with_key (group_at index group) key.Alias, group.alias) ∷ []
 
@@ -85,7 +85,7 @@ manager_at place index area = (with_key (in_area place index) key.Sm, area.sm) �
 abbrev pub offered_at : Place → ℕ → Pdo → List (Place × ℕ)
 offered_at place index pdo = (with_key (in_pdo place index) key.Index, pdo.index) ∷ []
 
--- the memory that an area may take: its first byte, and how many
+-- the memory that an area may take: its first byte, and the number of bytes
 abbrev pub extent : Area → Extent
 extent area = record { start = area.phys; bytes = reach area }
 
@@ -93,7 +93,7 @@ extent area = record { start = area.phys; bytes = reach area }
 abbrev pub extent_at : Place → ℕ → Area → List (Place × Extent)
 extent_at place index area = (in_area place index, extent area) ∷ []
 
--- two runs of memory have a byte in common; one of no bytes has none
+-- two runs of memory have a byte in common; an empty run has none
 abbrev pub extents_meet : Extent → Extent → Bool
 extents_meet a b =
     nat_lt 0 a.bytes && nat_lt 0 b.bytes && nat_lt a.start (b.start + b.bytes) && nat_lt b.start (a.start + a.bytes)
@@ -106,11 +106,11 @@ managers_repeated place index slave = first_repeat (each_at (manager_at (group_s
 abbrev pub areas_overlapping : Place → ℕ → Slave → Option Location
 areas_overlapping place index slave = first_related extents_meet (each_at (extent_at (group_slave_place place index slave)) 0 slave.areas)
 
--- where a number is first, by its index
+-- the index at which a number occurs first
 abbrev pub index_of : ℕ → List ℕ → Option ℕ
 index_of number list = first_from (λ index other. if number == other then Some index else None) 0 list
 
--- an assigned index that isn't offered, or was before
+-- an assigned index that is not offered, or occurred before
 abbrev pub assigned_unknown : Area → Place → ℕ → ℕ → Option Location
 assigned_unknown area place index number =
     if not (offers area number)
@@ -122,10 +122,7 @@ assigned_unknown area place index number =
 abbrev pub area_unknown : Place → ℕ → Area → Option Location
 area_unknown place index area =
     let here = in_area place index in
-    first_found (
-    first_from (assigned_unknown area here) 0 area.assigned
-    ∷ first_repeat (each_at (offered_at here) 0 area.offered)
-    ∷ [])
+    first_some (first_from (assigned_unknown area here) 0 area.assigned) (first_repeat (each_at (offered_at here) 0 area.offered))
 
 -- an assigned index that brings the area over a datagram's bits
 abbrev pub assigned_wide : Area → Place → ℕ → ℕ → Option Location
@@ -138,10 +135,10 @@ assigned_wide area place index number =
 abbrev pub area_wide : Place → ℕ → Area → Option Location
 area_wide place index area = first_from (assigned_wide area (in_area place index)) 0 area.assigned
 
--- what is found in the first area of a slave where it is found
+-- the place in the first area of a slave in which one is found
 abbrev pub in_areas : (Place → ℕ → Area → Option Location) → Place → ℕ → Slave → Option Location
 in_areas finds place index slave = first_from (finds (group_slave_place place index slave)) 0 slave.areas
 
--- what is found in the first slave of a group where it is found
+-- the place in the first slave of a group in which one is found
 abbrev pub in_slaves : (Place → ℕ → Slave → Option Location) → Place → ℕ → Group → Option Location
 in_slaves finds place index group = first_from (finds (group_at index group)) 0 group.slaves

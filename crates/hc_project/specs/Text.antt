@@ -1,5 +1,5 @@
 -- The project of a text, the group of a text, or its lowest fault.
-use Rattle.std.specs.Prelude.{ℕ, ◌==◌, Bool, if◌then◌else◌, List, [], ◌∷◌, length, Option, Some, None, Result, Ok, Err}
+use Rattle.std.specs.Prelude.{ℕ, ◌==◌, is_some, Bool, if◌then◌else◌, List, [], ◌∷◌, length, Option, Some, None, Result, Ok, Err}
 use Rattle.std.specs.Option.{ok_or}
 use Rattle.std.specs.Str.{is_utf8}
 use Rattle.toml.specs.Data.{Members, table}
@@ -12,13 +12,12 @@ use Rattle.hc_records.specs.Project.{project_faults}
 use Rattle.hc_project.specs.declared.reading.Reading.{Reading}
 use Rattle.hc_project.specs.Levels.{declared_groups}
 
--- the faults of what was read with their conditions, the lowest first: those of reading, then those of
--- every project
+-- the faults of the text that was read with their conditions, the lowest first: those of reading, then those of every project
 abbrev pub reading_faults : Reading (List Group) → List (Bool × ProjectFault)
 reading_faults groups =
-    (groups.syntax_faults.missing, MissingField) ∷ (groups.syntax_faults.outside, OutOfRange) ∷ project_faults groups.value
+    (is_some groups.syntax_faults.missing, MissingField) ∷ (is_some groups.syntax_faults.outside, OutOfRange) ∷ project_faults groups.value
 
--- the groups where there is no fault, else the fault
+-- the groups if there is no fault, else the fault
 abbrev pub unless_refused : Option ProjectFault → List Group → Result (List Group) ProjectFault
 unless_refused None groups = Ok groups
 unless_refused (Some fault) groups = Err fault
@@ -27,7 +26,7 @@ unless_refused (Some fault) groups = Err fault
 abbrev pub groups_or_fault : Reading (List Group) → Result (List Group) ProjectFault
 groups_or_fault groups = unless_refused (lowest (reading_faults groups)) groups.value
 
--- the project of the tree that TOML reads, where it reads one
+-- the project of the tree that TOML reads, if it reads one
 abbrev pub project_of : Option Members → Result (List Group) ProjectFault
 project_of None = Err NotToml
 project_of (Some members) = groups_or_fault (declared_groups (table members))
@@ -36,14 +35,14 @@ project_of (Some members) = groups_or_fault (declared_groups (table members))
 unfoldable pub project_in : List ℕ → Result (List Group) ProjectFault
 project_in text = if is_utf8 text then project_of (parse_document text) else Err NotToml
 
--- the one group after a mandatory one without slaves; none where the groups are others
+-- the one group after a mandatory one without slaves; none if the groups are others
 abbrev pub only_group : List Group → Option Group
 only_group [] = None
 only_group (mandatory ∷ []) = None
 only_group (mandatory ∷ group ∷ []) = if length mandatory.slaves == 0 then Some group else None
 only_group (mandatory ∷ group ∷ other ∷ others) = None
 
--- the group of a project that has just one and no mandatory slave
+-- the group of a project that has exactly one and no mandatory slave
 abbrev pub single_group : Result (List Group) ProjectFault → Result Group ProjectFault
 single_group (Err fault) = Err fault
 single_group (Ok groups) = ok_or (only_group groups) NotOneGroup

@@ -6,6 +6,8 @@ use Rattle.hc_records.specs.declared.records.Dir.TheVariants.{Out}
 use Rattle.hc_records.specs.declared.records.Group.{Group}
 use Rattle.hc_records.specs.declared.faults.ProjectFault.{ProjectFault}
 use Rattle.hc_records.specs.declared.faults.ProjectFault.TheVariants.{NotToml, MissingField, OutOfRange, RepeatedStation, NotOneGroup}
+use Rattle.hc_project.specs.Places.{first_some}
+use Rattle.hc_project.specs.Reading.{both}
 use Rattle.hc_project.specs.Text.{project_of, single_group}
 use Rattle.hc_project.specs.Laws.{number_tree}
 
@@ -18,12 +20,13 @@ tables list = array (items_of (map table list))
 abbrev numbers : List ℕ → Data
 numbers list = array (items_of (map number_tree list))
 
--- What TOML refuses is no project; a document of no keys is one of no slaves.
+-- A text that TOML refuses is no project; a document without keys is one without slaves.
 
 refused : project_of None ≡ Err NotToml
 refused = refl
 
 empty : read no_members ≡ Ok (record { alias = 0; slaves = [] } ∷ [])
+unfolding both first_some
 empty = refl
 
 -- A slave with an output area of 2 bits, read with keys of other levels beside its own.
@@ -65,30 +68,37 @@ small_project : read small ≡ Ok (
         } ∷ [];
       } ∷ [];
     } ∷ [])
+unfolding both first_some
 small_project = refl
 
--- Of several faults the lowest, wherever it is.
+-- The lowest of several faults is reported, wherever it is.
 
 abbrev of_stations : List Data → Members
 of_stations stations =
     member (codes "slave") (array (items_of (map (λ station. table (member (codes "station") station no_members)) stations))) no_members
 
 stations_once : read (of_stations (number_tree 1 ∷ number_tree 65535 ∷ [])) ≡ Ok (record { alias = 0; slaves = record { station = 1; areas = [] } ∷ record { station = 65535; areas = [] } ∷ [] } ∷ [])
+unfolding both first_some
 stations_once = refl
 
 station_twice : read (of_stations (number_tree 1 ∷ number_tree 1 ∷ [])) ≡ Err RepeatedStation
+unfolding both first_some
 station_twice = refl
 
 station_of_17_bits : read (of_stations (number_tree 1 ∷ number_tree 1 ∷ number_tree 65536 ∷ [])) ≡ Err OutOfRange
+unfolding both first_some
 station_of_17_bits = refl
 
 station_0 : read (of_stations (number_tree 1 ∷ number_tree 1 ∷ number_tree 0 ∷ [])) ≡ Err OutOfRange
+unfolding both first_some
 station_0 = refl
 
 station_below_0 : read (of_stations (number_tree 1 ∷ number_tree 1 ∷ integer (negsuc 0) ∷ [])) ≡ Err OutOfRange
+unfolding both first_some
 station_below_0 = refl
 
 station_as_string : read (of_stations (number_tree 1 ∷ number_tree 1 ∷ number_tree 0 ∷ string (codes "1") ∷ [])) ≡ Err MissingField
+unfolding both first_some
 station_as_string = refl
 
 -- A text of one group is that group's; one with a mandatory slave, or without a group, is not. Any other fault is reported
@@ -104,13 +114,17 @@ abbrev tool : Members → Members
 tool slave = member (codes "alias") (number_tree 200) (member (codes "slave") (tables (slave ∷ [])) no_members)
 
 one_group : read_one (member (codes "group") (tables (tool (station_of 2001) ∷ [])) no_members) ≡ Ok (record { alias = 200; slaves = record { station = 2001; areas = [] } ∷ [] })
+unfolding both first_some
 one_group = refl
 
 no_group : read_one no_members ≡ Err NotOneGroup
+unfolding both first_some
 no_group = refl
 
 mandatory_slave : read_one (member (codes "group") (tables (tool (station_of 2001) ∷ [])) (member (codes "slave") (tables (station_of 1 ∷ [])) no_members)) ≡ Err NotOneGroup
+unfolding both first_some
 mandatory_slave = refl
 
 two_faults : read_one (of_stations (number_tree 1 ∷ number_tree 1 ∷ [])) ≡ Err RepeatedStation
+unfolding both first_some
 two_faults = refl

@@ -1,28 +1,37 @@
-//! The arrays of a project's text: whatever can be read of one value can be read of every item of an
-//! array. Each level reads its lists by these.
-ghost use Rattle.std.specs.Prelude.{◌≡◌, IfOk, option_and_then, option_map};
+//! The arrays of a project's text: every item is read as a value alone would be. Each level reads its lists by these.
+ghost use Rattle.std.specs.Prelude.{◌≡◌, ℕ, IfOk, option_and_then, option_map};
 ghost use Rattle.toml.specs.Data.{Data, as_array};
 ghost use Rattle.toml.specs.View.{array_view, items_view, view};
 ghost use Rattle.hc_project.specs.declared.reading.Reading.{Reading};
-ghost use Rattle.hc_project.specs.Arrays.{each, needed_array, optional_array, sized};
+ghost use Rattle.hc_project.specs.declared.places.Place.{Place};
+ghost use Rattle.hc_project.specs.Arrays.{each, needed_array, optional_array, over};
+ghost use Rattle.hc_project.specs.Places.{with_key};
 
-use crate::reading::{Reading, SyntaxFaults};
+use crate::places::{Key, Place};
+use crate::reading::{Read, Reading, SyntaxFaults};
 use hc_records::items::Items;
 use std::alloc::{AllocError, Global};
 use toml::Value;
 use toml::value::Array;
 
-/// What can be read of a TOML value.
+/// An item of an array that can be read.
 pub trait Readable: Drop {
-    /// What is read of a value of the tree.
-    ghost reads: { Data → Reading Self };
+    /// The reading of a value of the tree, with the most items of its array, the place of its table and its index.
+    ghost reads: { ℕ → Place → ℕ → Data → Reading Self };
 
-    /// Reads a value, or answers `AllocError` where a growth was refused.
-    fn read(alloc: Global, value: &Value) -> Result<Reading<Self>, AllocError>
-        ensures { IfOk result (λ reading. reading ≡ reads (view value.now)) };
+    /// Reads a value. `AllocError` if an allocation fails.
+    fn read(alloc: Global, most: usize, place: Place, index: usize, value: &Value) -> Read<Self>
+        ensures { IfOk result (λ reading. reading ≡ reads most place index (view value.now)) };
 }
 
-/// The array that a key holds, none where it is absent or holds another kind.
+/// Returns the fault of an item that is over its array's limit, if this many are before it.
+pub fn over(most: usize, index: usize, place: Place) -> SyntaxFaults
+    ensures { result ≡ over most index place }
+{
+    SyntaxFaults::outside_if(index >= most, place)
+}
+
+/// Returns the array at a key, or `None` if it is absent or another kind.
 pub fn array_in(found: Option<&Value>) -> Option<&Array>
     ensures { option_map (λ v. array_view v.now) result
         ≡ option_and_then as_array (option_map (λ v. view v.now) found.entry) }
@@ -34,13 +43,18 @@ pub fn array_in(found: Option<&Value>) -> Option<&Array>
 }
 
 /// Reads every item.
-fn read_each<T: Readable>(alloc: Global, values: &[Value]) -> Result<Reading<Items<T>>, AllocError>
-    ensures { IfOk result (λ reading. reading ≡ each T.reads (items_view values.now)) }
+fn read_each<T: Readable>(
+    alloc: Global,
+    most: usize,
+    place: Place,
+    values: &[Value],
+) -> Read<Items<T>>
+    ensures { IfOk result (λ reading. reading ≡ each (T.reads most place) 0 (items_view values.now)) }
 {
     let mut items = Items::new(alloc);
     let mut syntax_faults = SyntaxFaults::none();
-    for value in values {
-        let reading = T::read(alloc, value)?;
+    for index in 0..values.len() {
+        let reading = T::read(alloc, most, place, index, &values[index])?;
         syntax_faults = syntax_faults.both(reading.syntax_faults);
         items.push(reading.value)?;
     }
@@ -50,54 +64,36 @@ fn read_each<T: Readable>(alloc: Global, values: &[Value]) -> Result<Reading<Ite
     })
 }
 
-/// A list with the fault of its length beside its own.
-fn size<T>(least: usize, most: usize, list: Reading<Items<T>>) -> Reading<Items<T>>
-    ensures { result ≡ sized least most list }
-{
-    let Reading {
-        value,
-        syntax_faults,
-    } = list;
-    let length_syntax_faults = SyntaxFaults {
-        missing: false,
-        outside: value.len() < least || most < value.len(),
-    };
-    Reading {
-        value,
-        syntax_faults: syntax_faults.both(length_syntax_faults),
-    }
-}
-
-/// Reads a needed array of at least so many items and at most so many.
+/// Reads a needed array of at most `most` items at a key of a table.
 pub fn read_needed<T: Readable>(
     alloc: Global,
-    least: usize,
     most: usize,
+    place: Place,
+    key: Key,
     found: Option<&Value>,
-) -> Result<Reading<Items<T>>, AllocError>
+) -> Read<Items<T>>
     ensures { IfOk result (λ reading. reading
-        ≡ needed_array least most T.reads (option_map (λ v. view v.now) found.entry)) }
+        ≡ needed_array (each (T.reads most place) 0) (with_key place key) (option_map (λ v. view v.now) found.entry)) }
 {
     match array_in(found) {
-        Some(array) => {
-            let list = read_each::<T>(alloc, array.as_slice())?;
-            Ok(size(least, most, list))
-        }
-        None => Ok(Reading::missing(Items::new(alloc))),
+        Some(array) => read_each::<T>(alloc, most, place, array.as_slice()),
+        None => Ok(Reading::missing(place.with_key(key), Items::new(alloc))),
     }
 }
 
-/// Reads an array of at most so many items; where it is absent, the empty one.
+/// Reads an array of at most `most` items at a key of a table. If the key is absent, the array is empty.
 pub fn read_optional<T: Readable>(
     alloc: Global,
     most: usize,
+    place: Place,
+    key: Key,
     found: Option<&Value>,
-) -> Result<Reading<Items<T>>, AllocError>
+) -> Read<Items<T>>
     ensures { IfOk result (λ reading. reading
-        ≡ optional_array most T.reads (option_map (λ v. view v.now) found.entry)) }
+        ≡ optional_array (each (T.reads most place) 0) (with_key place key) (option_map (λ v. view v.now) found.entry)) }
 {
     match found {
-        Some(_) => read_needed::<T>(alloc, 0, most, found),
+        Some(_) => read_needed::<T>(alloc, most, place, key, found),
         None => Ok(Reading::right(Items::new(alloc))),
     }
 }

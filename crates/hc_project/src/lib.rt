@@ -1,9 +1,8 @@
-//! The reader of project text: TOML in, a checked project out. Whoever opens a line calls it once,
-//! with the bytes before the commands.
+//! The reader of project text: TOML in, a checked project out. A program that opens a line calls it once, with the bytes before
+//! the commands.
 #![tactic(auto)]
 
 mod arrays;
-mod flawed;
 pub mod laws;
 mod levels;
 mod located;

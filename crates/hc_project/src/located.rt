@@ -1,26 +1,28 @@
-//! Where a text is no project: its lowest fault and the first place where that fault's condition holds.
+//! `locate`: the lowest fault of a text that is no project, and the first place at which that fault's condition holds.
 ghost use Rattle.std.specs.Prelude.{◌≡◌, IfOk};
 ghost use Rattle.toml.specs.View.{view};
 ghost use Rattle.hc_project.specs.Located.{LocatesFault, SaysOf, group_location, position_from, location_of};
 
-use crate::flawed::{SyntaxFault, find_in_document};
 use crate::levels::read_groups;
 use crate::places::{Location, Place};
+use crate::reading::Reading;
+use crate::repeats::Search;
 use crate::searches::{
     Aliases, OverlappingAreas, RepeatedManagers, Stations, UnknownPdos, Variables, WideAreas,
-    find_repeat, first_in,
+    Within, find_repeat, first_in,
 };
 use crate::text::settle;
 use hc_records::faults::ProjectFault;
+use hc_records::items::{Copied, Items};
 use hc_records::records::Group;
 use std::alloc::{AllocError, Global};
 use toml::Value;
 
-/// Why a text is no project, and where.
+/// The reason for which a text is no project, and its place.
 #[derive(Clone, Copy, Debug, PartialEq, Eq)]
 pub enum Found {
-    /// It is no TOML document (`NotToml`): the line and the column, both counted from 1, where `toml` gave up. A
-    /// column counts characters.
+    /// It is no TOML document (`NotToml`): the line and the column, both counted from 1, at which `toml` gave up. A column
+    /// counts characters.
     InText {
         /// The line.
         line: usize,
@@ -29,19 +31,15 @@ pub enum Found {
     },
     /// Any other fault.
     InProject {
-        /// The lowest fault, as `read_project` answers it.
+        /// The lowest fault, as `read_project` returns it.
         fault: ProjectFault,
-        /// The first place where its condition holds.
+        /// The first place at which its condition holds.
         location: Location,
     },
 }
 
 /// The place of a fault from `RepeatedAlias` to `AreaTooBig` in the groups that were read.
-fn find_in_project(
-    alloc: Global,
-    fault: ProjectFault,
-    groups: &[Group],
-) -> Result<Option<Location>, AllocError>
+fn find_in_project(alloc: Global, fault: ProjectFault, groups: &[Group]) -> Search
     ensures { IfOk result (λ found. found ≡ group_location fault groups.now) }
 {
     let document = Place::document();
@@ -49,33 +47,30 @@ fn find_in_project(
         ProjectFault::RepeatedAlias => find_repeat::<Group, Aliases>(alloc, document, groups),
         ProjectFault::RepeatedStation => find_repeat::<Group, Stations>(alloc, document, groups),
         ProjectFault::RepeatedSyncManager => {
-            first_in::<Group, RepeatedManagers>(alloc, document, groups)
+            first_in::<Group, Within<RepeatedManagers>>(alloc, document, groups)
         }
         ProjectFault::OverlappingAreas => {
-            first_in::<Group, OverlappingAreas>(alloc, document, groups)
+            first_in::<Group, Within<OverlappingAreas>>(alloc, document, groups)
         }
         ProjectFault::RepeatedVariable => find_repeat::<Group, Variables>(alloc, document, groups),
-        ProjectFault::UnknownPdo => first_in::<Group, UnknownPdos>(alloc, document, groups),
-        ProjectFault::AreaTooBig => first_in::<Group, WideAreas>(alloc, document, groups),
+        ProjectFault::UnknownPdo => {
+            first_in::<Group, Within<Within<UnknownPdos>>>(alloc, document, groups)
+        }
+        ProjectFault::AreaTooBig => {
+            first_in::<Group, Within<Within<WideAreas>>>(alloc, document, groups)
+        }
         _ => Ok(None),
     }
 }
 
-/// The place of a fault in a document.
-fn find_fault(
-    alloc: Global,
-    fault: ProjectFault,
-    document: &Value,
-) -> Result<Option<Location>, AllocError>
-    ensures { IfOk result (λ found. found ≡ location_of fault (view document.now)) }
+/// The place of a fault in what was read.
+fn find_fault(alloc: Global, fault: ProjectFault, groups: &Reading<Items<Group>>) -> Search
+    ensures { IfOk result (λ found. found ≡ location_of fault groups.now) }
 {
     match fault {
-        ProjectFault::MissingField => find_in_document(alloc, SyntaxFault::Missing, document),
-        ProjectFault::OutOfRange => find_in_document(alloc, SyntaxFault::Outside, document),
-        other => {
-            let groups = read_groups(alloc, document)?.value;
-            find_in_project(alloc, other, groups.as_slice())
-        }
+        ProjectFault::MissingField => Ok(groups.syntax_faults.missing),
+        ProjectFault::OutOfRange => Ok(groups.syntax_faults.outside),
+        other => find_in_project(alloc, other, groups.value.as_slice()),
     }
 }
 
@@ -96,32 +91,37 @@ fn position_after(front: &[u8]) -> (usize, usize)
     (line, column)
 }
 
-/// The lowest fault of a document and its place, none where its groups are a project.
+/// Returns the lowest fault of a document and its place, or `None` if its groups are a project. A copy is judged, so that the
+/// groups that were read remain if they are refused.
 fn find_lowest(alloc: Global, document: &Value) -> Result<Option<Found>, AllocError>
     ensures { IfOk result (λ found. SaysOf (view document.now) found) }
 {
     let groups = read_groups(alloc, document)?;
-    let Err(fault) = settle(alloc, groups) else {
+    let copy = Reading {
+        value: groups.value.copied(alloc)?,
+        syntax_faults: groups.syntax_faults,
+    };
+    let Err(fault) = settle(alloc, copy) else {
         return Ok(None);
     };
     if fault == ProjectFault::Memory {
         return Err(AllocError);
     }
-    match find_fault(alloc, fault, document)? {
+    match find_fault(alloc, fault, &groups)? {
         Some(location) => Ok(Some(Found::InProject { fault, location })),
         None => unreachable!(),
     }
 }
 
-/// Where a text is no project: nothing where `read_project` accepts it, else the same fault as that answers, and the first
-/// place where the fault's condition holds. `AllocError`, whatever the text, where a growth was refused.
+/// Returns `None` if `read_project` accepts the text, and otherwise its fault and the first place at which the fault's
+/// condition holds. `AllocError`, whatever the text, if an allocation fails.
 ///
 /// Places are ordered as the text orders the items of its arrays, and the keys of a table as docs/use/PROJECT_TEXT.md names
-/// them: a table that is read doesn't know where in the text its keys was. Of two things that may not be together the later
-/// one's place counts, and its fault names the earliest that it can't be with. Of too many of something the first over the
-/// limit is reported.
+/// them, since a parsed table does not record their order. For two things that may not be together the later one's place
+/// counts, and the earliest one that conflicts with it is named too. For too many of something the first one over the limit is
+/// reported.
 ///
-/// A refused text is read twice, and what is twice is found in n log n steps.
+/// A text is read once, and repeated names are found in n log n steps.
 #[tactic(auto, using(crate::proofs::Texts::unread))]
 pub fn locate(alloc: Global, text: &[u8]) -> Result<Option<Found>, AllocError>
     ensures { IfOk result (λ found. LocatesFault text.now found) }

@@ -1,8 +1,6 @@
-//! Places of a project's text: which group, slave, area and PDO, and which key there.
-ghost use Rattle.std.specs.Prelude.{◌≡◌};
-ghost use Rattle.hc_project.specs.Places.{first_found};
+//! Places of a project's text: a group, slave, area and PDO, and a key there.
 
-/// What a place names of the table where it lies.
+/// The part of a table that a place names.
 #[derive(Clone, Copy, Debug, PartialEq, Eq)]
 pub enum Key {
     /// The table itself.
@@ -43,22 +41,22 @@ pub enum Key {
     Bits(usize),
 }
 
-/// A place of a project's text. Indexes count from 0 in the order of the text.
+/// A place in a project's text. Indexes count from 0 in the order of the text.
 #[derive(Clone, Copy, Debug, PartialEq, Eq)]
 pub struct Place {
     /// The group, counted from 1 as the text declares them; 0 is the top of the document.
     pub group: usize,
-    /// The group's alias, 0 at the top and where it can't be read.
+    /// The group's alias; 0 at the top, or if it cannot be read.
     pub alias: u16,
-    /// The slave in its array, none where the place lies in no slave.
+    /// The slave, by its index in its array; `None` if the place lies in no slave.
     pub slave: Option<usize>,
-    /// The slave's station address, 0 where the place lies in no slave and where it can't be read.
+    /// The slave's station address; 0 if the place lies in no slave, or if it cannot be read.
     pub station: u16,
-    /// The area of the slave, none where the place lies in no area.
+    /// The area of the slave; `None` if the place lies in no area.
     pub area: Option<usize>,
-    /// The PDO that the area offers, none where the place lies in no PDO.
+    /// The PDO that the area offers; `None` if the place lies in no PDO.
     pub pdo: Option<usize>,
-    /// What the place names there.
+    /// The part of that table.
     pub key: Key,
 }
 
@@ -131,7 +129,7 @@ impl Place {
     }
 }
 
-/// Where a fault's condition holds.
+/// The place at which a fault's condition holds.
 #[derive(Clone, Copy, Debug, PartialEq, Eq)]
 pub struct Location {
     /// The place; of two things that may not be together, the later one's.
@@ -160,17 +158,4 @@ impl Location {
             first: Some(first),
         }
     }
-}
-
-/// The first of these that was found.
-#[tactic(auto, unfolding(crate::specs::Places::first_some))]
-pub(crate) fn first_of(found: &[Option<Location>]) -> Option<Location>
-    ensures { result ≡ first_found found.now }
-{
-    for location in found {
-        if location.is_some() {
-            return *location;
-        }
-    }
-    None
 }

@@ -1,80 +1,117 @@
-//! What reading a value gives: the value, and what is wrong with it or inside it. Every level of a
-//! project's text is read to one, so that the lowest fault is known once the whole text is read.
-ghost use Rattle.std.specs.Prelude.{◌≡◌};
-ghost use Rattle.std.specs.List.{list_any};
+//! `Reading`: a value with the first places of its faults. Every level of a project's text is read to one, so that the lowest
+//! fault and its place are known once the whole text is read.
+ghost use Rattle.std.specs.Prelude.{◌≡◌, if◌then◌else◌, None, Some};
+ghost use Rattle.hc_project.specs.Places.{first_some, place_alone};
 
-/// What is wrong with a value or inside it.
+use crate::places::{Location, Place};
+use std::alloc::AllocError;
+
+/// The faults of a value and of all inside it: the first place of each.
 #[derive(Clone, Copy)]
 pub struct SyntaxFaults {
-    /// A needed key is absent, or a value is of another kind.
-    pub missing: bool,
-    /// A value is outside its range.
-    pub outside: bool,
+    /// The first place at which a needed key is absent, or a value is of another kind.
+    pub missing: Option<Location>,
+    /// The first place at which a value is outside its range, or an array has too many items or too few.
+    pub outside: Option<Location>,
 }
 
-/// Whether a needed key is absent, or a value of another kind, in one of the list's values.
-fn is_any_missing(list: &[SyntaxFaults]) -> bool
-    ensures { result ≡ list_any (λ syntax_faults. syntax_faults.missing) list.now }
+/// Returns the first of two places if there is one, else the second.
+#[tactic(auto, unfolding(crate::specs::Places::first_some))]
+pub fn first_some(first: Option<Location>, second: Option<Location>) -> Option<Location>
+    ensures { result ≡ first_some first second }
 {
-    list.iter().any(|syntax_faults| syntax_faults.missing)
+    match first {
+        Some(_) => first,
+        None => second,
+    }
 }
 
-/// Whether a value is outside its range in one of the list's values.
-fn is_any_outside(list: &[SyntaxFaults]) -> bool
-    ensures { result ≡ list_any (λ syntax_faults. syntax_faults.outside) list.now }
+/// The place if a test holds.
+fn place_if(holds: bool, place: Place) -> Option<Location>
+    ensures { result ≡ (if holds then Some (place_alone place) else None) }
 {
-    list.iter().any(|syntax_faults| syntax_faults.outside)
+    if holds {
+        Some(Location::single(place))
+    } else {
+        None
+    }
 }
 
 impl SyntaxFaults {
     ghost use Rattle.std.specs.Prelude.{◌≡◌};
-    ghost use Rattle.hc_project.specs.Reading.{both, faults_joined, no_syntax_faults};
+    ghost use Rattle.hc_project.specs.Reading.{both, faults_joined, missing_if, no_syntax_faults, outside_if};
 
     /// Nothing is wrong.
     pub fn none() -> SyntaxFaults
         ensures { result ≡ no_syntax_faults }
     {
         SyntaxFaults {
-            missing: false,
-            outside: false,
+            missing: None,
+            outside: None,
         }
     }
 
-    /// What is wrong with any of several values.
-    pub fn joined(list: &[SyntaxFaults]) -> SyntaxFaults
-        ensures { result ≡ faults_joined list.now }
+    /// A value is missing at a place if a test holds.
+    pub fn missing_if(is_missing: bool, place: Place) -> SyntaxFaults
+        ensures { result ≡ missing_if is_missing place }
     {
         SyntaxFaults {
-            missing: is_any_missing(list),
-            outside: is_any_outside(list),
+            missing: place_if(is_missing, place),
+            outside: None,
         }
     }
 
-    /// What is wrong with two values.
+    /// A value is outside its range at a place if a test holds.
+    pub fn outside_if(is_outside: bool, place: Place) -> SyntaxFaults
+        ensures { result ≡ outside_if is_outside place }
+    {
+        SyntaxFaults {
+            missing: None,
+            outside: place_if(is_outside, place),
+        }
+    }
+
+    /// The faults of two values, in the order of the text.
+    #[tactic(auto, unfolding(crate::specs::Reading::both))]
     pub fn both(self, other: SyntaxFaults) -> SyntaxFaults
         ensures { result ≡ both self other }
     {
         SyntaxFaults {
-            missing: self.missing || other.missing,
-            outside: self.outside || other.outside,
+            missing: first_some(self.missing, other.missing),
+            outside: first_some(self.outside, other.outside),
         }
+    }
+
+    /// The faults of several values, in the order of the text.
+    #[tactic(auto, using(crate::proofs::Joined::both_first))]
+    pub fn joined(list: &[SyntaxFaults]) -> SyntaxFaults
+        ensures { result ≡ faults_joined list.now }
+    {
+        let mut all = SyntaxFaults::none();
+        for index in 0..list.len() {
+            all = all.both(list[index]);
+        }
+        all
     }
 }
 
-/// What reading a value gives.
+/// A reading, or `AllocError` if an allocation fails.
+pub type Read<T> = Result<Reading<T>, AllocError>;
+
+/// A value that was read.
 #[derive(Drop)]
 pub struct Reading<T> {
-    /// The value. Where it is missing or outside its range, one that is in for it.
+    /// The value, or a substitute if it is missing or outside its range.
     pub value: T,
-    /// What is wrong with it or inside it.
+    /// The faults of the value and of all inside it.
     pub syntax_faults: SyntaxFaults,
 }
 
 impl<T> Reading<T> {
     ghost use Rattle.std.specs.Prelude.{◌≡◌};
-    ghost use Rattle.hc_project.specs.Reading.{right, missing, outside};
+    ghost use Rattle.hc_project.specs.Reading.{right, missing};
 
-    /// A value where nothing is wrong.
+    /// A value without faults.
     pub fn right(value: T) -> Reading<T>
         ensures { result ≡ right value }
     {
@@ -84,29 +121,13 @@ impl<T> Reading<T> {
         }
     }
 
-    /// A value that is absent or of another kind, with what is in for it.
-    pub fn missing(value: T) -> Reading<T>
-        ensures { result ≡ missing value }
+    /// A substitute for a value that is absent or of another kind at a place.
+    pub fn missing(place: Place, value: T) -> Reading<T>
+        ensures { result ≡ missing place value }
     {
         Reading {
             value,
-            syntax_faults: SyntaxFaults {
-                missing: true,
-                outside: false,
-            },
-        }
-    }
-
-    /// A value outside its range, with what is in for it.
-    pub fn outside(value: T) -> Reading<T>
-        ensures { result ≡ outside value }
-    {
-        Reading {
-            value,
-            syntax_faults: SyntaxFaults {
-                missing: false,
-                outside: true,
-            },
+            syntax_faults: SyntaxFaults::missing_if(true, place),
         }
     }
 }

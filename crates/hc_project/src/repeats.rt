@@ -1,4 +1,4 @@
-//! Which number is twice in a list of numbers with their places, and which runs of memory meet.
+//! Repeated numbers in a list of numbers with their places, and runs of memory that overlap.
 ghost use Rattle.std.specs.Prelude.{◌≡◌, ◌++◌, ◌==◌, ℕ, List, false, true, find, option_map, IfOk, OnOk};
 ghost use Rattle.std.specs.List.{list_any};
 ghost use Rattle.hc_project.specs.declared.places.Place.{Place};
@@ -13,31 +13,31 @@ use std::collections::BTreeSet;
 pub struct Extent {
     /// Its first byte.
     pub start: u16,
-    /// How many bytes, at most those of the longest datagram.
+    /// The number of its bytes, at most those of the longest datagram.
     pub bytes: u16,
 }
 
-/// What a record gives to a list of numbers with their places.
+/// Numbers with their places, in the order of the text.
+pub type Numbers = Vec<(Place, u32)>;
+
+/// Numbers are added, or an allocation failed.
+pub type Added = Result<(), AllocError>;
+
+/// The place that a search finds, none if there is none, or `AllocError` if an allocation fails.
+pub type Search = Result<Option<Location>, AllocError>;
+
+/// A record with numbers that go to a list, with their places.
 pub trait Listed<T> {
     /// Its numbers, by its index in the array that is at a place.
     ghost lists: { Place → ℕ → T → List (Place × ℕ) };
 
-    /// Adds them to a list, or answers `AllocError` where a growth was refused.
-    fn add(
-        list: &mut Vec<(Place, u32)>,
-        place: Place,
-        index: usize,
-        item: &T,
-    ) -> Result<(), AllocError>
+    /// Appends its numbers to a list. `AllocError` if an allocation fails.
+    fn add(list: &mut Numbers, place: Place, index: usize, item: &T) -> Added
         ensures { OnOk result (list.new.items ≡ list.old.items ++ lists place index item.now) };
 }
 
 /// Adds the numbers of each item of an array.
-pub fn add_each<T, L: Listed<T>>(
-    list: &mut Vec<(Place, u32)>,
-    place: Place,
-    items: &[T],
-) -> Result<(), AllocError>
+pub fn add_each<T, L: Listed<T>>(list: &mut Numbers, place: Place, items: &[T]) -> Added
     ensures { OnOk result (list.new.items ≡ list.old.items ++ each_at (L.lists place) 0 items.now) }
 {
     for index in 0..items.len() {
@@ -46,7 +46,7 @@ pub fn add_each<T, L: Listed<T>>(
     Ok(())
 }
 
-/// The place of the first such number.
+/// Returns the place of the first such number.
 fn place_of_number(list: &[(Place, u32)], number: u32) -> Option<Place>
     ensures { result ≡ option_map (λ x. x.0) (find (λ x. number == x.1) list.now) }
 {
@@ -58,7 +58,7 @@ fn place_of_number(list: &[(Place, u32)], number: u32) -> Option<Place>
     None
 }
 
-/// The place of a number among those before it, which aren't gone through where it is new.
+/// Returns the place of a number among those before it, which are not searched if it is new.
 #[tactic(auto, using(crate::proofs::Earlier::none_found))]
 fn earlier_place(is_new: bool, before: &[(Place, u32)], number: u32) -> Option<Place>
     requires { is_new ≡ true → list_any (λ x. number == x.1) before.now ≡ false }
@@ -71,9 +71,9 @@ fn earlier_place(is_new: bool, before: &[(Place, u32)], number: u32) -> Option<P
     }
 }
 
-/// The first number that was before, by a set of those seen.
+/// Returns the first number that occurred before, by a set of those seen.
 #[tactic(auto, unfolding(crate::specs::Places::first_some))]
-pub fn first_repeat(alloc: Global, list: &[(Place, u32)]) -> Result<Option<Location>, AllocError>
+pub fn first_repeat(alloc: Global, list: &[(Place, u32)]) -> Search
     ensures { IfOk result (λ found. found ≡ first_repeat list.now) }
 {
     let mut seen = BTreeSet::new(alloc);
@@ -87,7 +87,7 @@ pub fn first_repeat(alloc: Global, list: &[(Place, u32)]) -> Result<Option<Locat
     Ok(None)
 }
 
-/// Whether two runs have a byte in common.
+/// Two runs have a byte in common.
 fn do_meet(a: Extent, b: Extent) -> bool
     ensures { result ≡ extents_meet a b }
 {
@@ -96,7 +96,7 @@ fn do_meet(a: Extent, b: Extent) -> bool
     0 < a.bytes && 0 < b.bytes && u32::from(a.start) < b_end && u32::from(b.start) < a_end
 }
 
-/// The place of the first run that meets another.
+/// Returns the place of the first run that overlaps another.
 fn place_of_meeting(list: &[(Place, Extent)], extent: Extent) -> Option<Place>
     ensures { result ≡ option_map (λ x. x.0) (find (λ x. extents_meet x.1 extent) list.now) }
 {

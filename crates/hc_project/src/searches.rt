@@ -1,5 +1,5 @@
-//! Where the conditions of the faults from `RepeatedAlias` to `AreaTooBig` hold: the first place in the groups that
-//! were read.
+//! Searches for the faults from `RepeatedAlias` to `AreaTooBig` in the groups that were read: each finds the first place at
+//! which the fault's condition holds.
 ghost use Rattle.std.specs.Prelude.{◌≡◌, ◌++◌, ◌<◌, ◌≤◌, ◌==◌, ℕ, Option, length, nat_lt, IfOk, OnOk, option_map};
 ghost use Rattle.hc_project.specs.declared.places.Place.{Place};
 ghost use Rattle.hc_project.specs.declared.places.Location.{Location};
@@ -7,11 +7,15 @@ ghost use Rattle.hc_records.specs.Area.{width};
 ghost use Rattle.hc_project.specs.Places.{first_from};
 ghost use Rattle.hc_project.specs.Repeated.{alias_at, area_unknown, offered_variables, area_wide, areas_overlapping, assigned_unknown, assigned_wide, each_at, entry_variable, extent, extent_at, first_repeat, group_at, group_variables, in_areas, in_slaves, index_of, manager_at, managers_repeated, offered_at, pdo_variables, group_slave_place, slave_variables, slave_station, stations_at};
 
-use crate::places::{Key, Location, Place, first_of};
-use crate::repeats::{Extent, Listed, add_each, first_meeting, first_repeat};
+use crate::places::{Key, Location, Place};
+use crate::reading::first_some;
+use crate::repeats::{
+    Added, Extent, Listed, Numbers, Search, add_each, first_meeting, first_repeat,
+};
 use hc_records::limits::MOST_AREA_BITS;
 use hc_records::records::{Area, Entry, Group, Pdo, Slave};
 use std::alloc::{AllocError, Global};
+use std::marker::PhantomData;
 
 /// The place of a group; the mandatory one has number 0.
 fn group_at(index: usize, group: &Group) -> Place
@@ -33,12 +37,7 @@ pub struct Aliases;
 impl Listed<Group> for Aliases {
     ghost lists = { alias_at };
 
-    fn add(
-        list: &mut Vec<(Place, u32)>,
-        _place: Place,
-        index: usize,
-        item: &Group,
-    ) -> Result<(), AllocError> {
+    fn add(list: &mut Numbers, _place: Place, index: usize, item: &Group) -> Added {
         let place = group_at(index, item).with_key(Key::Alias);
         list.push((place, u32::from(item.alias)))?;
         Ok(())
@@ -51,12 +50,7 @@ pub struct Stations;
 impl Listed<Slave> for Stations {
     ghost lists = { slave_station };
 
-    fn add(
-        list: &mut Vec<(Place, u32)>,
-        place: Place,
-        index: usize,
-        item: &Slave,
-    ) -> Result<(), AllocError> {
+    fn add(list: &mut Numbers, place: Place, index: usize, item: &Slave) -> Added {
         let here = slave_at(place, index, item).with_key(Key::Station);
         list.push((here, u32::from(item.station)))?;
         Ok(())
@@ -66,12 +60,7 @@ impl Listed<Slave> for Stations {
 impl Listed<Group> for Stations {
     ghost lists = { stations_at };
 
-    fn add(
-        list: &mut Vec<(Place, u32)>,
-        _place: Place,
-        index: usize,
-        item: &Group,
-    ) -> Result<(), AllocError> {
+    fn add(list: &mut Numbers, _place: Place, index: usize, item: &Group) -> Added {
         add_each::<Slave, Stations>(list, group_at(index, item), item.slaves.as_slice())
     }
 }
@@ -82,12 +71,7 @@ pub struct Variables;
 impl Listed<Entry> for Variables {
     ghost lists = { entry_variable };
 
-    fn add(
-        list: &mut Vec<(Place, u32)>,
-        place: Place,
-        index: usize,
-        item: &Entry,
-    ) -> Result<(), AllocError> {
+    fn add(list: &mut Numbers, place: Place, index: usize, item: &Entry) -> Added {
         if let Some(variable) = item.0 {
             list.push((place.with_key(Key::Variable(index)), variable.number()))?;
         }
@@ -98,12 +82,7 @@ impl Listed<Entry> for Variables {
 impl Listed<Pdo> for Variables {
     ghost lists = { pdo_variables };
 
-    fn add(
-        list: &mut Vec<(Place, u32)>,
-        place: Place,
-        index: usize,
-        item: &Pdo,
-    ) -> Result<(), AllocError> {
+    fn add(list: &mut Numbers, place: Place, index: usize, item: &Pdo) -> Added {
         add_each::<Entry, Variables>(list, place.in_pdo(index), item.entries.as_slice())
     }
 }
@@ -111,12 +90,7 @@ impl Listed<Pdo> for Variables {
 impl Listed<Area> for Variables {
     ghost lists = { offered_variables };
 
-    fn add(
-        list: &mut Vec<(Place, u32)>,
-        place: Place,
-        index: usize,
-        item: &Area,
-    ) -> Result<(), AllocError> {
+    fn add(list: &mut Numbers, place: Place, index: usize, item: &Area) -> Added {
         add_each::<Pdo, Variables>(list, place.in_area(index), item.offered.as_slice())
     }
 }
@@ -124,12 +98,7 @@ impl Listed<Area> for Variables {
 impl Listed<Slave> for Variables {
     ghost lists = { slave_variables };
 
-    fn add(
-        list: &mut Vec<(Place, u32)>,
-        place: Place,
-        index: usize,
-        item: &Slave,
-    ) -> Result<(), AllocError> {
+    fn add(list: &mut Numbers, place: Place, index: usize, item: &Slave) -> Added {
         add_each::<Area, Variables>(list, slave_at(place, index, item), item.areas.as_slice())
     }
 }
@@ -137,12 +106,7 @@ impl Listed<Slave> for Variables {
 impl Listed<Group> for Variables {
     ghost lists = { group_variables };
 
-    fn add(
-        list: &mut Vec<(Place, u32)>,
-        _place: Place,
-        index: usize,
-        item: &Group,
-    ) -> Result<(), AllocError> {
+    fn add(list: &mut Numbers, _place: Place, index: usize, item: &Group) -> Added {
         add_each::<Slave, Variables>(list, group_at(index, item), item.slaves.as_slice())
     }
 }
@@ -153,12 +117,7 @@ pub struct Managers;
 impl Listed<Area> for Managers {
     ghost lists = { manager_at };
 
-    fn add(
-        list: &mut Vec<(Place, u32)>,
-        place: Place,
-        index: usize,
-        item: &Area,
-    ) -> Result<(), AllocError> {
+    fn add(list: &mut Numbers, place: Place, index: usize, item: &Area) -> Added {
         list.push((place.in_area(index).with_key(Key::Sm), u32::from(item.sm)))?;
         Ok(())
     }
@@ -170,12 +129,7 @@ pub struct Offered;
 impl Listed<Pdo> for Offered {
     ghost lists = { offered_at };
 
-    fn add(
-        list: &mut Vec<(Place, u32)>,
-        place: Place,
-        index: usize,
-        item: &Pdo,
-    ) -> Result<(), AllocError> {
+    fn add(list: &mut Numbers, place: Place, index: usize, item: &Pdo) -> Added {
         list.push((
             place.in_pdo(index).with_key(Key::Index),
             u32::from(item.index),
@@ -185,11 +139,7 @@ impl Listed<Pdo> for Offered {
 }
 
 /// The first number that was before, among those of an array's items.
-pub fn find_repeat<T, L: Listed<T>>(
-    alloc: Global,
-    place: Place,
-    items: &[T],
-) -> Result<Option<Location>, AllocError>
+pub fn find_repeat<T, L: Listed<T>>(alloc: Global, place: Place, items: &[T]) -> Search
     ensures { IfOk result (λ found. found ≡ first_repeat (each_at (L.lists place) 0 items.now)) }
 {
     let mut list = Vec::new(alloc);
@@ -197,28 +147,19 @@ pub fn find_repeat<T, L: Listed<T>>(
     first_repeat(alloc, &list)
 }
 
-/// What is looked for in a record.
+/// A search in a record.
 pub trait Sought<T> {
-    /// Where it is found first, by the record's index in the array that is at a place.
+    /// The first place, by the record's index in the array that is at a place.
     ghost finds: { Place → ℕ → T → Option Location };
 
-    /// Finds it, or answers `AllocError` where a growth was refused.
-    fn find(
-        alloc: Global,
-        place: Place,
-        index: usize,
-        item: &T,
-    ) -> Result<Option<Location>, AllocError>
+    /// Finds the first place, or fails with `AllocError`.
+    fn find(alloc: Global, place: Place, index: usize, item: &T) -> Search
         ensures { IfOk result (λ found. found ≡ finds place index item.now) };
 }
 
-/// What is found in the first item where it is found.
+/// The place in the first item in which one is found.
 #[tactic(auto, unfolding(crate::specs::Places::first_some))]
-pub fn first_in<T, S: Sought<T>>(
-    alloc: Global,
-    place: Place,
-    items: &[T],
-) -> Result<Option<Location>, AllocError>
+pub fn first_in<T, S: Sought<T>>(alloc: Global, place: Place, items: &[T]) -> Search
     ensures { IfOk result (λ found. found ≡ first_from (S.finds place) 0 items.now) }
 {
     for index in 0..items.len() {
@@ -230,32 +171,35 @@ pub fn first_in<T, S: Sought<T>>(
     Ok(None)
 }
 
+/// A search in each slave of a group, or in each area of a slave.
+pub struct Within<S> {
+    sought: PhantomData<S>,
+}
+
+impl<S: Sought<Slave>> Sought<Group> for Within<S> {
+    ghost finds = { in_slaves S.finds };
+
+    fn find(alloc: Global, _place: Place, index: usize, item: &Group) -> Search {
+        first_in::<Slave, S>(alloc, group_at(index, item), item.slaves.as_slice())
+    }
+}
+
+impl<S: Sought<Area>> Sought<Slave> for Within<S> {
+    ghost finds = { in_areas S.finds };
+
+    fn find(alloc: Global, place: Place, index: usize, item: &Slave) -> Search {
+        first_in::<Area, S>(alloc, slave_at(place, index, item), item.areas.as_slice())
+    }
+}
+
 /// Two areas of a slave at one sync manager.
 pub struct RepeatedManagers;
 
 impl Sought<Slave> for RepeatedManagers {
     ghost finds = { managers_repeated };
 
-    fn find(
-        alloc: Global,
-        place: Place,
-        index: usize,
-        item: &Slave,
-    ) -> Result<Option<Location>, AllocError> {
+    fn find(alloc: Global, place: Place, index: usize, item: &Slave) -> Search {
         find_repeat::<Area, Managers>(alloc, slave_at(place, index, item), item.areas.as_slice())
-    }
-}
-
-impl Sought<Group> for RepeatedManagers {
-    ghost finds = { in_slaves managers_repeated };
-
-    fn find(
-        alloc: Global,
-        _place: Place,
-        index: usize,
-        item: &Group,
-    ) -> Result<Option<Location>, AllocError> {
-        first_in::<Slave, RepeatedManagers>(alloc, group_at(index, item), item.slaves.as_slice())
     }
 }
 
@@ -286,31 +230,13 @@ pub struct OverlappingAreas;
 impl Sought<Slave> for OverlappingAreas {
     ghost finds = { areas_overlapping };
 
-    fn find(
-        alloc: Global,
-        place: Place,
-        index: usize,
-        item: &Slave,
-    ) -> Result<Option<Location>, AllocError> {
+    fn find(alloc: Global, place: Place, index: usize, item: &Slave) -> Search {
         let list = extents(alloc, slave_at(place, index, item), item.areas.as_slice())?;
         Ok(first_meeting(&list))
     }
 }
 
-impl Sought<Group> for OverlappingAreas {
-    ghost finds = { in_slaves areas_overlapping };
-
-    fn find(
-        alloc: Global,
-        _place: Place,
-        index: usize,
-        item: &Group,
-    ) -> Result<Option<Location>, AllocError> {
-        first_in::<Slave, OverlappingAreas>(alloc, group_at(index, item), item.slaves.as_slice())
-    }
-}
-
-/// Where a number is first.
+/// The index at which a number is first.
 #[tactic(auto, unfolding(crate::specs::Places::first_some))]
 fn index_of(numbers: &[u16], number: u16) -> Option<usize>
     ensures { result ≡ index_of number numbers.now }
@@ -323,7 +249,7 @@ fn index_of(numbers: &[u16], number: u16) -> Option<usize>
     None
 }
 
-/// Whether an assigned index isn't offered, or was before.
+/// Returns the place of an assigned index that is not offered or occurred before.
 fn find_at_assigned(area: &Area, place: Place, index: usize, number: u16) -> Option<Location>
     requires { index ≤ length area.now.assigned }
     ensures { result ≡ assigned_unknown area.now place index number }
@@ -339,7 +265,7 @@ fn find_at_assigned(area: &Area, place: Place, index: usize, number: u16) -> Opt
     }
 }
 
-/// The first assigned index that isn't offered or was before.
+/// Returns the first assigned index that is not offered or occurred before.
 #[tactic(auto, unfolding(crate::specs::Places::first_some))]
 fn find_in_assigned(place: Place, area: &Area) -> Option<Location>
     ensures { result ≡ first_from (assigned_unknown area.now place) 0 area.now.assigned }
@@ -354,58 +280,27 @@ fn find_in_assigned(place: Place, area: &Area) -> Option<Location>
     None
 }
 
-/// An area whose assigned PDOs aren't offered PDOs, each once.
+/// Returns the place of an area whose assigned PDOs are not offered PDOs, each once.
 pub struct UnknownPdos;
 
 impl Sought<Area> for UnknownPdos {
     ghost finds = { area_unknown };
 
-    fn find(
-        alloc: Global,
-        place: Place,
-        index: usize,
-        item: &Area,
-    ) -> Result<Option<Location>, AllocError> {
+    fn find(alloc: Global, place: Place, index: usize, item: &Area) -> Search {
         let here = place.in_area(index);
         let offered = find_repeat::<Pdo, Offered>(alloc, here, item.offered.as_slice())?;
-        Ok(first_of(&[find_in_assigned(here, item), offered]))
+        Ok(first_some(find_in_assigned(here, item), offered))
     }
 }
 
-impl Sought<Slave> for UnknownPdos {
-    ghost finds = { in_areas area_unknown };
-
-    fn find(
-        alloc: Global,
-        place: Place,
-        index: usize,
-        item: &Slave,
-    ) -> Result<Option<Location>, AllocError> {
-        first_in::<Area, UnknownPdos>(alloc, slave_at(place, index, item), item.areas.as_slice())
-    }
-}
-
-impl Sought<Group> for UnknownPdos {
-    ghost finds = { in_slaves (in_areas area_unknown) };
-
-    fn find(
-        alloc: Global,
-        _place: Place,
-        index: usize,
-        item: &Group,
-    ) -> Result<Option<Location>, AllocError> {
-        first_in::<Slave, UnknownPdos>(alloc, group_at(index, item), item.slaves.as_slice())
-    }
-}
-
-/// Whether an area has more bits than a datagram with these PDOs assigned.
+/// An area has more bits than a datagram with these PDOs assigned.
 fn is_wide_with(area: &Area, indexes: &[u16]) -> bool
     ensures { result ≡ nat_lt MOST_AREA_BITS (width (record area.now { assigned = indexes.now })) }
 {
     MOST_AREA_BITS < area.width_with(indexes)
 }
 
-/// The place of an assigned index, where the area has more bits than a datagram with it.
+/// Returns the place of an assigned index, if the area has more bits than a datagram with it.
 fn find_at_wide(area: &Area, place: Place, index: usize, number: u16) -> Option<Location>
     requires { index < length area.now.assigned }
     ensures { result ≡ assigned_wide area.now place index number }
@@ -438,38 +333,7 @@ pub struct WideAreas;
 impl Sought<Area> for WideAreas {
     ghost finds = { area_wide };
 
-    fn find(
-        _alloc: Global,
-        place: Place,
-        index: usize,
-        item: &Area,
-    ) -> Result<Option<Location>, AllocError> {
+    fn find(_alloc: Global, place: Place, index: usize, item: &Area) -> Search {
         Ok(find_wide(place.in_area(index), item))
-    }
-}
-
-impl Sought<Slave> for WideAreas {
-    ghost finds = { in_areas area_wide };
-
-    fn find(
-        alloc: Global,
-        place: Place,
-        index: usize,
-        item: &Slave,
-    ) -> Result<Option<Location>, AllocError> {
-        first_in::<Area, WideAreas>(alloc, slave_at(place, index, item), item.areas.as_slice())
-    }
-}
-
-impl Sought<Group> for WideAreas {
-    ghost finds = { in_slaves (in_areas area_wide) };
-
-    fn find(
-        alloc: Global,
-        _place: Place,
-        index: usize,
-        item: &Group,
-    ) -> Result<Option<Location>, AllocError> {
-        first_in::<Slave, WideAreas>(alloc, group_at(index, item), item.slaves.as_slice())
     }
 }

@@ -14,7 +14,7 @@ use hc_records::records::Group;
 use std::alloc::Global;
 use toml::Value;
 
-/// The project of what was read, or the lowest fault.
+/// Returns the project of the text that was read, or the lowest fault.
 pub fn settle(alloc: Global, groups: Reading<Items<Group>>) -> Result<Project, ProjectFault>
     ensures project { IfOk result (λ project. groups_or_fault groups ≡ Ok project) }
     ensures refused { IfErr result (λ fault. fault ≢ Memory → groups_or_fault groups ≡ Err fault) }
@@ -23,23 +23,23 @@ pub fn settle(alloc: Global, groups: Reading<Items<Group>>) -> Result<Project, P
         value,
         syntax_faults,
     } = groups;
-    if syntax_faults.missing {
+    if syntax_faults.missing.is_some() {
         return Err(ProjectFault::MissingField);
     }
-    if syntax_faults.outside {
+    if syntax_faults.outside.is_some() {
         return Err(ProjectFault::OutOfRange);
     }
     Project::checked(alloc, value)
 }
 
-/// The project of a text: the bytes of a TOML document in UTF-8, as docs/use/PROJECT_TEXT.md describes it.
+/// Returns the project of a text: the bytes of a TOML document in UTF-8, as docs/use/PROJECT_TEXT.md describes it. Each byte
+/// and each value is read once; repeated names are found in n log n steps. Fails with the lowest fault that holds over the
+/// whole text; then nothing of it is stored:
 ///
-/// Otherwise the lowest fault whose condition holds over the whole text: `NotToml` where the bytes aren't
-/// UTF-8 or TOML refuses them, `MissingField` where a needed key is absent or something is of another
-/// kind, `OutOfRange` to `AreaTooBig` as in `Project::checked`, and `Memory`, whatever the text, where a
-/// growth was refused. Nothing is kept of a text that is refused.
-///
-/// Each byte and each value is looked at once. Names that are twice are found in n log n steps.
+/// - `NotToml`: the bytes are not UTF-8, or TOML refuses them.
+/// - `MissingField`: a needed key is absent, or a value is of another kind.
+/// - `OutOfRange` to `AreaTooBig`: as in `Project::checked`.
+/// - `Memory`, whatever the text: an allocation failed.
 #[tactic(auto, using(crate::proofs::Texts::unread))]
 pub fn read_project(alloc: Global, text: &[u8]) -> Result<Project, ProjectFault>
     ensures project { IfOk result (λ project. project_in text.now ≡ Ok project) }
@@ -58,7 +58,7 @@ pub fn read_project(alloc: Global, text: &[u8]) -> Result<Project, ProjectFault>
     settle(alloc, groups)
 }
 
-/// The one group after a mandatory group without slaves, or `NotOneGroup` where the groups are others.
+/// Returns the one group after a mandatory group without slaves, or `NotOneGroup` if the groups are others.
 fn only_group(groups: Items<Group>) -> Result<Group, ProjectFault>
     ensures { result ≡ ok_or (only_group groups) NotOneGroup }
 {
@@ -69,12 +69,9 @@ fn only_group(groups: Items<Group>) -> Result<Group, ProjectFault>
     groups.pop().ok_or(ProjectFault::NotOneGroup)
 }
 
-/// The group of a text: a project's text, as docs/use/PROJECT_TEXT.md describes it, with exactly one group and
-/// no mandatory slave.
-///
-/// Otherwise the lowest fault whose condition holds over the whole text, as `read_project` answers it, or
-/// after all of these `NotOneGroup` where it is the text of another project. `Memory` may come in place of
-/// any, where a growth was refused.
+/// Returns the group of a text: a project's text, as docs/use/PROJECT_TEXT.md describes it, with exactly one group and no
+/// mandatory slave. Fails with the lowest fault that holds over the whole text, as `read_project` does, or after all of these
+/// with `NotOneGroup` for the text of another project. `Memory` may be returned instead of any of them, if an allocation fails.
 pub fn read_group(alloc: Global, text: &[u8]) -> Result<Group, ProjectFault>
     ensures group { IfOk result (λ group. group_in text.now ≡ Ok group) }
     ensures refused { IfErr result (λ fault. fault ≢ Memory → group_in text.now ≡ Err fault) }

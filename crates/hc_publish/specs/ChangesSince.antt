@@ -1,4 +1,4 @@
--- What a copy shows: what the changes that it got since a project's opening lead to.
+-- The content of a copy: the changes applied since a project's opening, and what follows from them.
 use Rattle.std.specs.Prelude.{◌≡◌, ℕ, List, [], ◌∷◌, ◌++◌, Option, None}
 use Rattle.hc_records.specs.declared.records.Group.{Group}
 use Rattle.hc_records.specs.Line.{State, groups_of, line, opened}
@@ -8,16 +8,16 @@ use Rattle.hc_events.specs.declared.change.Change.{Change}
 use Rattle.hc_events.specs.declared.change.Change.TheVariants as change
 use Rattle.hc_events.specs.Changes.{AreLegal, epoch_after, slot_after, table_after}
 
--- what a copy got: the groups of the project whose line was opened, and the changes since, the oldest first
+-- the groups of the project whose line was opened, and the changes since, the oldest first
 pub record ChangesSince : Type 0 where
   pub groups : List Group
   pub changes : List Change
 
--- nothing since the opening
+-- no change since the opening
 abbrev pub just_answered : List Group → ChangesSince
 just_answered groups = record { groups = groups; changes = [] }
 
--- and one change more
+-- the changes, with one more
 abbrev pub with_change : ChangesSince → Change → ChangesSince
 with_change changes_since change = record { groups = changes_since.groups; changes = changes_since.changes ++ change ∷ [] }
 
@@ -25,23 +25,23 @@ with_change changes_since change = record { groups = changes_since.groups; chang
 abbrev pub IsLegal : ChangesSince → Type 0
 IsLegal changes_since = AreLegal changes_since.groups changes_since.changes
 
--- the table that they lead to from the opening's
+-- the table after the changes, from the opening's
 abbrev pub table_shown : ChangesSince → Table
 table_shown changes_since = table_after (table_of (line (opened changes_since.groups))) changes_since.changes
 
--- the epoch that they lead to
+-- the epoch after the changes
 abbrev pub epoch_shown : ChangesSince → ℕ
 epoch_shown changes_since = epoch_after 0 changes_since.changes
 
--- the data of a task's datagram after them, or none
+-- the data of a task's datagram after the changes, or none
 abbrev pub data_shown : ChangesSince → ℕ → ℕ → Option (List ℕ)
 data_shown changes_since task d = slot_after task d None changes_since.changes
 
--- a change that is taken in without memory: a good answer, and a swap that makes no variable appear or go
+-- a change needs no allocation: a good answer, or a swap that makes no variable appear or go
 abbrev pub TakesNoMemory : ChangesSince → Change → Type 0
 TakesNoMemory changes_since (change.Swapped swap) = KeepRows (table_shown changes_since).variables swap.change.rows
 TakesNoMemory changes_since (change.Good good) = Unit {0}
 
--- a plan's state is its opening's
+-- the state of a plan is its opening's
 abbrev pub IsOpening : State → Type 0
 IsOpening state = state ≡ opened (groups_of state.groups)

@@ -1,7 +1,7 @@
--- What a copy gives.
+-- A copy by its fields.
 use Rattle.hc_publish.specs.declared.copies.Copy.TheInside.{Inside}
 use Rattle.hc_publish.specs.Stories.{Story}
 
--- what it shows, and its last seal
+-- the content, and the last seal
 abbrev pub story_in : Inside → Story
 story_in c = record { shown = c.shown; token = c.front }

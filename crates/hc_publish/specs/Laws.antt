@@ -1,4 +1,4 @@
--- What a copy shows, in other words. Each law is the contract of a function of `laws`.
+-- Laws of what a copy shows. Each law is the contract of a function of `laws`.
 use Rattle.std.specs.Prelude.{◌≡◌, ◌↔◌, ℕ, ◌<◌, List, length, map, Some, Ok, Result}
 use Rattle.std.specs.List.{range_with_len}
 use Rattle.hc_records.specs.declared.limits.TheConstants.{TASKS}
@@ -20,11 +20,12 @@ use Rattle.hc_publish.specs.declared.view_faults.ViewFault.{ViewFault}
 use Rattle.hc_publish.specs.ChangesSince.{IsLegal, IsOpening, ChangesSince, data_shown, epoch_shown, table_shown}
 use Rattle.hc_publish.specs.Values.{number_at, value_by, value_shown}
 
--- what is read after a record of a variable: by its place in the record's line and the data that tasks read there
+-- the value of a variable for a task after a record, or the fault: by the variable's place in the record's line and the data
+-- that tasks read there
 abbrev pub value_read : History → ℕ → ℕ → Result ℕ ViewFault
 value_read history task variable = value_by (slot_of history) task (variable_place variable (line_of history))
 
--- what a copy has of a task: its epoch, and the data, or none, of each datagram that its table has of the task
+-- the epoch of a copy, and the data, or none, of each datagram that its table has of a task
 pub record ShowsTask (history : History) (changes_since : ChangesSince) (task : ℕ) : Type 0 where
   pub part : part_in (table_shown changes_since) task ≡ part_in (table_of (line_of history)) task
   pub data_are : (d : ℕ) → data_shown changes_since task d ≡ slot_of history task d
@@ -41,14 +42,15 @@ pub record ShowsHistory (history : History) (changes_since : ChangesSince) : Typ
   pub places : (variable : ℕ) → place_in (table_shown changes_since) variable ≡ variable_place variable (line_of history)
   pub tasks : (task : ℕ) → ShowsTask history changes_since task
 
--- so does each copy with a legal list that gives the record's edits and good answers
+-- each copy with a legal list that gives the record's edits and good answers shows what a core with the record has
 abbrev pub ShowsWhatIsRead : Type 0
 ShowsWhatIsRead =
     (history : History) (changes : List Change)
     → IsReachable history → IsLegal (record { groups = opened_with history; changes = changes }) → map update_in changes ≡ updates_of history
     → ShowsHistory history (record { groups = opened_with history; changes = changes })
 
--- a number is a variable's value for a task: the variable is an input of the line to which the edits lead that the changes name, in this task, and its bits in the data of its datagram's last good answer since the last of them have this number
+-- a number is a variable's value for a task: the variable is an input of this task in the line that the changes' edits lead to,
+-- and its bits in the data of its datagram's last good answer since the last of them have this number
 pub record IsLastValue (changes_since : ChangesSince) (task variable number : ℕ) : Type 0 where
   pub place : VariablePlace
   pub there : variable_place variable (line (state_after_changes (opened changes_since.groups) changes_since.changes)) ≡ Some place
@@ -58,12 +60,12 @@ pub record IsLastValue (changes_since : ChangesSince) (task variable number : �
   pub last : IsLastAnswer task place.datagram bytes (map update_in changes_since.changes)
   pub value : number ≡ number_at bytes place
 
--- just such a number is reported after a legal list
+-- after a legal list exactly such a number is returned
 abbrev pub ValuesAreLastAnswers : Type 0
 ValuesAreLastAnswers =
     (changes_since : ChangesSince) (task variable number : ℕ)
     → IsLegal changes_since → (value_shown changes_since task variable ≡ Ok number) ↔ IsLastValue changes_since task variable number
 
--- a copy may be made of a project's plan at its opening, and has its groups
+-- a copy can be made of a project's plan at its opening, and has its groups
 abbrev pub PlansOpen : Type 0
 PlansOpen = (groups : List Group) → IsOpening (opened groups) × (groups_of (opened groups).groups ≡ groups)

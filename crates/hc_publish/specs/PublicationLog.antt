@@ -1,4 +1,4 @@
--- The publication log: its entries are what was about to be shown, and each goes on from the ones before.
+-- The publication log: its entries are the lists that were about to be shown, and each extends the ones before.
 use Rattle.std.specs.Prelude.{ℕ, ◌≡◌, ◌<◌, ◌==◌, true, List, [], ◌∷◌, ◌++◌, length, MatchBool}
 use mathlib.Core.List.{IsPrefix}
 use Rattle.logbook.specs.Pages.{Cell, Step, View, Book, Named}
@@ -6,11 +6,11 @@ use Rattle.logbook.specs.declared.tokens.Seen.{Seen}
 use Rattle.hc_publish.specs.declared.publication_log.Law.{Law}
 use Rattle.hc_publish.specs.ChangesSince.{ChangesSince}
 
--- what a thread has seen of the publication log
+-- the entries of the publication log that a thread has seen
 abbrev pub TheSeen : Type 0
 TheSeen = Seen ChangesSince ℕ Law
 
--- the new one is of the same groups, and its changes begin with those of the old one
+-- the new list has the same groups, and its changes begin with those of the old one
 pub record Extends (old new : ChangesSince) : Type 0 where
   pub groups : new.groups ≡ old.groups
   pub changes : IsPrefix old.changes new.changes
@@ -20,7 +20,7 @@ abbrev pub last_of : ChangesSince → List ChangesSince → ChangesSince
 last_of x [] = x
 last_of x (y ∷ ys) = last_of y ys
 
--- the last entry; nothing is said where there is none
+-- the entry is the last one, if there is one
 abbrev pub top : List ChangesSince → ChangesSince
 top log = last_of (record { groups = []; changes = [] }) log
 
@@ -38,6 +38,6 @@ pub record IsUnchanged (cells : List Cell) (log : List ChangesSince) : Type 0 wh
 abbrev pub log_end_of : Book → Named
 log_end_of b = record { tracked = true; key = 0; book = b }
 
--- where the word was as expected, the entry was added to all that had been seen
+-- if the word was as expected, the entry was added to all that had been seen
 abbrev pub Adds : Step ChangesSince → View ChangesSince ℕ → ℕ → View ChangesSince ℕ → Type 0
 Adds s v found w = MatchBool (found == s.old) (w.0 ≡ v.0 ++ s.ask ∷ []) (Unit {0})

@@ -1,4 +1,5 @@
--- What contracts see of a publisher: the copy that views show, the steps that they do not see yet, and the prefix of the publication log.
+-- A publisher, as contracts see it: the copy that views show, the steps that they do not show yet, and the prefix of the
+-- publication log.
 use Rattle.std.specs.Prelude.{List}
 use Rattle.hc_events.specs.declared.change.Change.{Change}
 use Rattle.hc_publish.specs.ChangesSince.{ChangesSince}
@@ -7,7 +8,7 @@ use Rattle.hc_publish.specs.PublicationLog.{TheSeen}
 use Rattle.hc_publish.specs.Rule.{changes_in, after_steps}
 use Rattle.hc_publish.specs.Stories.{Origin, Story, origin}
 
--- the copy that views show, the steps after it, and what was seen of the whole publication log
+-- the copy that views show, the steps after it, and the entries of the whole publication log
 pub record PublishedState : Type 0 where
   pub shown : Story
   pub steps : List Step
@@ -21,10 +22,10 @@ published p = p.shown.shown.changes
 abbrev pub pending : PublishedState → List Change
 pending p = changes_in p.steps
 
--- which publisher it is
+-- the publisher itself, as seats and notes name it
 abbrev pub origin_of : PublishedState → Origin
 origin_of p = origin p.shown
 
--- what a publishing is about to show
+-- the list that a publishing is about to show
 abbrev pub all_shown : PublishedState → ChangesSince
 all_shown p = after_steps p.shown.shown p.steps

@@ -1,4 +1,4 @@
--- What the seats and the publisher know of the published copy.
+-- The published copy, as the seats and the publisher know it.
 use Rattle.std.specs.Prelude.{◌≡◌, ℕ, ◌≤◌, suc, Bool, true, false, List, [], ◌∷◌, ◌++◌, length, map}
 use mathlib.Core.Option.{some}
 use lib.ListN.{get_elem?}
@@ -21,18 +21,18 @@ changes_in [] = []
 changes_in (Changed c ∷ steps) = c ∷ changes_in steps
 changes_in (Sealed f ∷ steps) = changes_in steps
 
--- how many of the steps are seals
+-- the number of seals among the steps
 abbrev pub seals_in : List Step → ℕ
 seals_in [] = 0
 seals_in (Changed c ∷ steps) = seals_in steps
 seals_in (Sealed f ∷ steps) = suc (seals_in steps)
 
--- the seals are no more than the changes, and one where a refused publishing left one after them
+-- there are at most as many seals as changes, and one more if a refused publishing left a seal after them
 abbrev pub AreFew : Bool → List Step → Type 0
 AreFew true steps = seals_in steps ≤ suc (length (changes_in steps))
 AreFew false steps = seals_in steps ≤ length (changes_in steps)
 
--- what is shown after some steps
+-- the content of a copy after some steps
 abbrev pub after_steps : ChangesSince → List Step → ChangesSince
 after_steps s steps = record { groups = s.groups; changes = s.changes ++ changes_in steps }
 
@@ -45,7 +45,7 @@ abbrev pub Bound : List TheSeen → Story → Type 0
 Bound [] x = Unit {0}
 Bound (t ∷ v) x = (t.book ≡ x.token.book) × Bound v x
 
--- what the copy shows is the last entry that its token has seen, and is legal
+-- the content of the copy is the last entry that its token has seen, and is legal
 abbrev pub IsSealed : Story → Type 0
 IsSealed x = (top x.token.log ≡ x.shown) × IsLegal x.shown
 
@@ -53,6 +53,6 @@ IsSealed x = (top x.token.log ≡ x.shown) × IsLegal x.shown
 abbrev pub CopyIsSealed : Story → List (List TheSeen) → Type 0
 CopyIsSealed x views = IsSealed x × ((seat : ℕ) (v : List TheSeen) → get_elem? views seat ≡ some v → Bound v x)
 
--- what a step gives: a sealed copy, of the publication log that was known
+-- the result of a step: a sealed copy, of the publication log that was known
 abbrev pub Sees : List TheSeen → Story → Story → List TheSeen → Type 0
 Sees v x y w = (w ≡ y.token ∷ []) × Bound v y × IsSealed y

@@ -1,4 +1,4 @@
--- What clauses see of a seat and of a note.
+-- Seats and notes, as clauses see them.
 use Rattle.std.specs.Prelude.{◌≡◌, ℕ, List, []}
 use Rattle.hc_events.specs.declared.change.Change.{Change}
 use Rattle.hc_publish.specs.declared.publisher.Note.{Note}
@@ -6,7 +6,7 @@ use Rattle.hc_publish.specs.declared.seat.Seat.{Seat}
 use Rattle.hc_publish.specs.PublicationLog.{TheSeen, top}
 use Rattle.hc_publish.specs.Stories.{Origin}
 
--- which publisher a prefix is of
+-- the publisher that a prefix belongs to
 abbrev pub front_origin : TheSeen → Origin
 front_origin f = record { publication_log = f.book; groups = (top f.log).groups }
 
@@ -18,15 +18,15 @@ known s = (top s.front.log).changes
 abbrev pub noted_changes : Note → List Change
 noted_changes n = (top n.front.log).changes
 
--- which publisher it belongs to
+-- the publisher that a seat belongs to
 abbrev pub seat_origin : Seat → Origin
 seat_origin s = front_origin s.front
 
--- which publisher made it
+-- the publisher that made a note
 abbrev pub note_origin : Note → Origin
 note_origin n = front_origin n.front
 
--- the seat's task
+-- the task of a seat
 abbrev pub task_of : Seat → ℕ
 task_of s = s.task
 

@@ -1,4 +1,4 @@
--- What a copy keeps follows from what it got.
+-- The fields of a copy, which follow from the changes that it applied.
 use Rattle.std.specs.Prelude.{◌≡◌, ℕ, ◌<◌, All, None, min}
 use Rattle.hc_records.specs.declared.limits.TheConstants.{LAST_EPOCH, MOST_DATAGRAMS}
 use Rattle.hc_records.specs.Line.{groups_of}
@@ -21,7 +21,7 @@ abbrev pub FitsCopy : Change → Type 0
 FitsCopy (change.Swapped swap) = Unit {0}
 FitsCopy (change.Good good) = FitsImage good
 
--- a table, an epoch and an image are those that the changes lead to, from the opening of a project
+-- table, epoch and image are those after the changes, from the opening of a project
 pub record Shows (changes_since : ChangesSince) (table : Table) (epoch : ℕ) (image : DatagramImage) : Type 0 where
   pub project : lowest_fault changes_since.groups ≡ None
   pub fits : All FitsCopy changes_since.changes
@@ -29,6 +29,6 @@ pub record Shows (changes_since : ChangesSince) (table : Table) (epoch : ℕ) (i
   pub epoch_is : epoch ≡ min (epoch_shown changes_since) LAST_EPOCH
   pub data_is : (task d : ℕ) → d < MOST_DATAGRAMS → data_of image task d ≡ data_shown changes_since task d
 
--- so are each copy's
+-- table, epoch and image of a copy are those after its changes
 abbrev pub CopiesFollow : Inside → Type 0
 CopiesFollow copy = Shows (answered_in copy) copy.places copy.epoch copy.inputs

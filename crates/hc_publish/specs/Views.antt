@@ -5,7 +5,7 @@ use Rattle.hc_publish.specs.declared.view.View.TheInside.{Inside}
 use Rattle.hc_publish.specs.Rule.{IsSealed}
 use Rattle.hc_publish.specs.Looks.{Look}
 
--- what contracts see of it
+-- a view, as contracts see it
 abbrev pub look_of : Inside → Look
 look_of v = record { task = v.task; changes_since = v.reading.part.value.shown; token = v.reading.part.value.token }
 

@@ -1,4 +1,4 @@
-//! How a copy takes in a step.
+//! Steps that a copy applies.
 ghost use Rattle.std.specs.Prelude.{◌≡◌, MatchResult};
 ghost use Rattle.hc_publish.specs.ChangesSince.{with_change};
 ghost use Rattle.hc_publish.specs.Rule.{copy_after};
@@ -9,16 +9,16 @@ use hc_events::change::Change;
 use left_right::Absorb;
 use std::alloc::AllocError;
 
-/// What the publisher sends to both copies.
+/// The steps that the publisher sends to both copies.
 #[derive(Drop)]
 pub enum Step {
     Changed(Change),
-    /// The prefix whose last entry is what a copy shows with all the changes before.
+    /// The prefix whose last entry is what a copy shows with all changes before.
     Sealed(LogPrefix),
 }
 
 impl Copy {
-    /// Keeps a good answer, whose memory the publisher uses again, if there is room. Any other change is dropped.
+    /// Stores a good answer, whose buffer the publisher uses again, if there is a free place. Any other change is dropped.
     fn keep(&mut self, change: Change)
         ensures { self.new ≡ self.old }
     {
@@ -30,7 +30,8 @@ impl Copy {
         }
     }
 
-    /// Takes in a change that the other copy already has. It comes back if a growth is refused; the copy is then as it was.
+    /// Applies a change that the other copy already has. If an allocation fails the change is returned, and the copy is
+    /// unchanged.
     fn take_over(&mut self, change: Change) -> Result<(), Change>
         ensures { MatchResult result (λ _. self.new ≡ record self.old { shown = with_change self.old.shown change }) (λ back. (back ≡ change) × (self.new ≡ self.old)) }
     {

@@ -5,13 +5,13 @@ use hc_events::change::GoodAnswer;
 use std::marker::Model;
 use std::sync::Mutex;
 
-/// What tasks see, and the prefix of the publication log at its last seal.
+/// The data that tasks read, and the prefix of the publication log at its last seal.
 #[derive(Drop)]
 pub struct Copy {
     pub(crate) shown: Shown,
     pub(crate) front: LogPrefix,
-    // good answers that both copies have taken in, until the publisher takes them out, which alone looks here: a lock,
-    // since the seats' threads have the copy at hand too
+    // good answers that both copies have applied, until the publisher takes them out; a lock, since the seats' threads hold the
+    // copy too, though only the publisher looks here
     pub(crate) used: Mutex<Vec<GoodAnswer>>,
 }
 

@@ -1,27 +1,27 @@
-//! Why nothing is opened.
+//! Faults of an opening.
 ghost use Rattle.std.specs.Prelude.{◌≡◌};
 ghost use Rattle.hc_publish.specs.Faults.{open_fault_number};
 
 use std::alloc::AllocError;
 use thiserror::Error;
 
-/// Why nothing is opened. A fault's number is part of the program's printed words and never changes.
+/// The reason for which nothing is opened. A fault's number is part of the program's printed words and never changes.
 #[derive(Clone, Copy, Debug, PartialEq, Eq, Error)]
 pub enum OpenFault {
-    /// The opening line's task, 0 to 7, would need more than 16 datagrams; it is the lowest such task. Who opens a
-    /// plan does not meet it, since there is no such plan.
+    /// A task of the opening line, 0 to 7, needs more than 16 datagrams; it is the lowest such task. The opening of a plan
+    /// never fails with it, since there is no such plan.
     #[error("task {0} needs more than 16 datagrams")]
     TooManyDatagrams(u8),
-    /// A growth was refused.
+    /// An allocation failed.
     #[error("out of memory")]
     Memory,
-    /// A seat at the published copies was refused.
+    /// The published copies gave no seat.
     #[error("a seat was refused")]
     NoSeat,
 }
 
 impl OpenFault {
-    /// The fault's number, 1 to 3.
+    /// Returns the fault's number, 1 to 3.
     pub fn number(self) -> u8
         ensures { result ≡ open_fault_number self }
     {

@@ -1,14 +1,14 @@
-//! The changes that a copy has taken in, as contracts see them.
+//! The changes that a copy has applied, as contracts see them.
 ghost use Rattle.std.specs.Prelude.{◌≡◌, [], ◌∷◌, ◌++◌};
 
 use hc_events::change::GoodAnswer;
 use hc_places::swap::Swap;
 use std::snapshot::Snapshot;
 
-/// The changes, the last one outermost. At run time it is a tag.
+/// The applied changes, the last one outermost. At run time it is a tag.
 #[derive(Drop)]
 pub(crate) enum History {
-    /// None since the opening.
+    /// No change since the opening.
     Opened,
     /// An edit was accepted.
     Swapped(Snapshot<History>, Snapshot<Swap>),
@@ -20,7 +20,7 @@ impl History {
     ghost use Rattle.hc_events.specs.declared.change.Change.TheVariants as change;
     ghost use Rattle.hc_publish.specs.Histories.{changes_of};
 
-    /// A swap came after them.
+    /// Returns the history with a swap after it.
     pub(crate) fn add_swap(&mut self, swap: &Swap)
         ensures { changes_of self.new ≡ changes_of self.old ++ change.Swapped swap.now ∷ [] }
     {
@@ -28,7 +28,7 @@ impl History {
         *self = History::Swapped(before, Snapshot::of(swap));
     }
 
-    /// A good answer came after them.
+    /// Returns the history with a good answer after it.
     pub(crate) fn add_good(&mut self, good: &GoodAnswer)
         ensures { changes_of self.new ≡ changes_of self.old ++ change.Good good.now ∷ [] }
     {

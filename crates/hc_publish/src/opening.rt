@@ -1,4 +1,4 @@
-//! How it all begins.
+//! Opening of a publisher and its seats.
 ghost use Rattle.std.specs.Prelude.{◌≡◌, ◌⊎◌, [], All, IfErr, IfOk, map};
 ghost use Rattle.std.specs.List.{range_with_len};
 ghost use Rattle.hc_records.specs.declared.limits.TheConstants.{TASKS};
@@ -21,10 +21,11 @@ use left_right::writer::Writer;
 use std::alloc::{AllocError, Global};
 use std::sync::{Mutex, Wait};
 
-// as many good answers that were taken in are kept in each copy: one of each datagram that a line can have
+// the number of applied good answers that each copy stores: one for each datagram that a line can have
 const MOST_USED: usize = TASKS as usize * MOST_DATAGRAMS;
 
-/// The publisher of a plan at its opening, with nothing published and nothing pending. `AllocError` if a growth is refused.
+/// Returns the publisher of a plan at its opening, with nothing published and nothing pending. `AllocError` if an allocation
+/// fails.
 fn opened<R: Wait>(rt: &R, alloc: Global, plan: &Plan) -> Result<Publisher, AllocError>
     requires { IsOpening plan.now }
     ensures { IfOk result (λ publisher. (published publisher ≡ []) × (pending publisher ≡ []) × ((origin_of publisher).groups ≡ groups_of plan.now.groups)) }
@@ -58,10 +59,12 @@ fn opened<R: Wait>(rt: &R, alloc: Global, plan: &Plan) -> Result<Publisher, Allo
     })
 }
 
-/// A publisher of a plan at its opening, where nothing is published yet, and a seat for each of the eight tasks, task
-/// i's at place i. All growths but those of later changes are made here, before the copies are shared. Otherwise
-/// `Memory` where a growth was refused, or `NoSeat` where a seat was; `TooManyDatagrams` never, since a plan's line
-/// is not over its limit.
+/// Returns a publisher of a plan at its opening, which has published nothing yet, and the seats of the eight tasks, task i's at
+/// index i. It makes all allocations except those for later changes, before the copies are shared. Fails with one of these:
+///
+/// - `Memory`: an allocation failed.
+/// - `NoSeat`: the published copies gave no seat.
+/// - `TooManyDatagrams`: never, since the line of a plan is not over its limit.
 pub fn open<R: Wait>(
     rt: &R,
     alloc: Global,

@@ -1,5 +1,5 @@
-//! The publication log: an entry for each publishing, what was about to be shown. It exists in the proofs alone, beside a
-//! word that counts its entries. By it two threads know that one of their lists begins the other.
+//! The publication log, with an entry for each publishing: the list that was about to be shown. It exists only in the proofs,
+//! beside a word that counts its entries. From it two threads know that one of their lists begins the other.
 ghost use Rattle.std.specs.Prelude.{◌≡◌, ◌<◌, [], ◌∷◌, ◌++◌, length, None, IfSome, MatchBool};
 ghost use Rattle.hc_publish.specs.PublicationLog.{Extends, log_end_of, top};
 
@@ -7,7 +7,7 @@ use crate::shown::Shown;
 use logbook::{Gain, Offer, Plain, Play, Rule, Seen, Start, Word};
 use std::marker::Model;
 
-/// The rule of the log. An entry is what a copy shows; no value of it is made.
+/// The rule of the log. An entry is the content of a copy; no value of it exists at run time.
 pub struct Law;
 
 impl Rule<Shown, u64> for Law {
@@ -28,7 +28,7 @@ impl Rule<Shown, u64> for Law {
     ghost moves = { λ ask before after answer. Unit {0} };
 }
 
-/// Callers trade nothing.
+/// The payload of a step: callers exchange nothing.
 pub struct Nothing;
 
 impl Gain<Shown, u64> for Nothing {
@@ -54,13 +54,13 @@ impl Plain<Shown, Shown, u64> for Add {
     ghost state = { λ shown. None };
 }
 
-/// A beginning of the log that was seen.
+/// A prefix of the log that was seen.
 pub type Token = Seen<Shown, u64, Law>;
 
 /// The word that counts the entries.
 pub type Head = Word<Shown, u64, Law>;
 
-/// A beginning of the log, with at least one entry. Contracts see it as what was seen of the log.
+/// A prefix of the log, with at least one entry. Contracts see the entries that were seen.
 #[derive(Drop)]
 pub struct LogPrefix {
     count: u64,
@@ -78,7 +78,7 @@ impl Model for LogPrefix {
     ghost invariant = { λ front. (front.count ≡ length front.seen.log) × (0 < length front.seen.log) };
 }
 
-/// Adds an entry to all that was seen. `None` where the log has gone on without this token.
+/// Adds an entry after all that were seen. Returns `None` if the log has an entry that this token has not seen.
 fn entered<X, M: Plain<X, Shown, u64>>(
     head: &Head,
     seen: &Token,
@@ -107,8 +107,8 @@ fn entered<X, M: Plain<X, Shown, u64>>(
 }
 
 impl LogPrefix {
-    /// A new log, with one entry: what is shown at the opening. `None` where the entry was refused, which no run
-    /// meets.
+    /// Returns a new log with one entry, the list that is shown at the opening. `None` if the entry was refused, which never
+    /// occurs in practice.
     pub fn opened(shown: &Shown) -> Option<(Head, LogPrefix)>
         ensures { IfSome result (λ opened. (opened.0 ≡ log_end_of opened.1.book) × (opened.1.log ≡ shown.now ∷ [])) }
     {
@@ -118,7 +118,7 @@ impl LogPrefix {
         Some((head, front))
     }
 
-    /// The same prefix again.
+    /// Returns an equal prefix.
     pub fn again(&self) -> LogPrefix
         ensures { result ≡ self.now }
     {
@@ -128,8 +128,8 @@ impl LogPrefix {
         }
     }
 
-    /// Whether all that this one saw is in the other, which is a prefix of the same log; otherwise all that the
-    /// other saw is in this one.
+    /// Returns whether all entries of this prefix are in the other, which is a prefix of the same log. Otherwise all entries of
+    /// the other are in this one.
     pub fn is_within(&self, other: &LogPrefix) -> bool
         requires { other.now.book ≡ self.now.book }
         ensures { MatchBool result (Extends (top self.now.log) (top other.now.log)) (Extends (top other.now.log) (top self.now.log)) }
@@ -139,7 +139,8 @@ impl LogPrefix {
         self.count <= other.count
     }
 
-    /// The prefix with an entry more. `None` where the log has gone on without this prefix, which no run meets.
+    /// Returns the prefix with one more entry. `None` if the log has an entry that this prefix has not seen, which never occurs
+    /// in practice.
     pub fn with<X, M: Plain<X, Shown, u64>>(&self, head: &Head, about: &X) -> Option<LogPrefix>
         requires head { head.now ≡ log_end_of self.now.book }
         requires plain { M.state about.now ≡ None }

@@ -12,13 +12,13 @@ mod steps;
 
 pub(crate) type Copies = Writer<Copy, Step, Known, Image>;
 
-/// What publishes changes to the seats. It is not `Drop`: end it by `finish`.
+/// The end that publishes changes to the seats. It is not `Drop`: end it by `finish`.
 pub struct Publisher {
     pub(crate) writer: Copies,
     pub(crate) head: Head,
-    // of the whole publication log: all that was ever about to be shown
+    // the whole publication log: every list that was ever about to be shown
     pub(crate) front: LogPrefix,
-    // the last pending step is a seal of all the changes, left by a publishing that was refused
+    // the last pending step is a seal of all the changes, which a refused publishing left
     pub(crate) is_sealed: bool,
 }
 
@@ -33,13 +33,13 @@ impl Model for Publisher {
     ghost invariant = { IsSoundPublisher };
 }
 
-/// What was published, for a seat to learn. It has no bytes but a count.
+/// The list that was published, for a seat to learn. At run time it is only a count.
 #[derive(Drop)]
 pub struct Note {
     pub(crate) front: LogPrefix,
 }
 
-/// The change that was refused with `Memory` comes back.
+/// A change that is returned because an allocation failed.
 #[derive(Debug, Drop, Error)]
 #[error("out of memory")]
 pub struct Kept(pub Change);

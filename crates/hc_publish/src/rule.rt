@@ -1,6 +1,6 @@
-//! The rule of the published copy, and the steps that keep it: `Looks` is a publish or an entry, `Binds` gives a new
-//! seat which publication log it is. What a seat saw, and what a note carries, is a prefix of that log. So of two
-//! such lists one begins the other.
+//! The rule of the published copy, and the steps that keep it: `Looks` is a publishing or an entry, `Binds` tells a new seat
+//! which publication log it has. A seat's list and a note's list are prefixes of that log, so of two such lists one begins the
+//! other.
 ghost use Rattle.std.specs.Prelude.{[], ◌++◌};
 ghost use Rattle.hc_publish.specs.Rule.{CopyIsSealed, Sees};
 
@@ -9,7 +9,8 @@ use crate::publication_log::Token;
 use atomic_table::{Join, Split};
 use crossbeam_utils::rule::{Outcome, Protocol};
 
-/// The tokens of the copies that a thread saw. No value of it is made: a clause reads an array as a list, of any length.
+/// The tokens of the copies that a thread saw. No value of it exists at run time: a clause reads an array as a list of any
+/// length.
 pub type Known = [Token; 0];
 
 /// The rule.
@@ -28,7 +29,7 @@ impl Outcome<Copy, Known> for Looks {
     ghost then = { Sees };
 }
 
-/// The publisher says what it knows, and a seat learns it.
+/// A step in which the publisher's knowledge passes to a seat.
 pub struct Binds;
 
 impl Split<Known> for Binds {

@@ -10,7 +10,7 @@ use left_right::reader::Reader;
 
 mod steps;
 
-/// One task's seat, with all that it saw or learnt. A dropped seat holds nobody up.
+/// One task's seat, with all that it saw or learnt. A dropped seat makes nobody wait.
 #[derive(Drop)]
 pub struct Seat {
     pub(crate) task: u8,

@@ -1,4 +1,4 @@
-//! A copy of what tasks see, and how it takes changes in.
+//! A copy of what tasks read, to which changes are applied.
 ghost use Rattle.std.specs.Prelude.{◌≡◌, ◌+◌, ◌*◌, ◌≤◌, length};
 ghost use Rattle.hc_publish.specs.Values.{number_at};
 
@@ -18,8 +18,8 @@ use std::alloc::{AllocError, Global};
 use std::marker::Model;
 use std::snapshot::Snapshot;
 
-/// The table of a line's places, its epoch, and each datagram's data of this epoch, or none. Contracts see the
-/// groups of the project that was opened and the changes that were taken in since: all else follows from these.
+/// The table of a line's places, its epoch, and the data of each datagram in this epoch, or none. Contracts see the groups of
+/// the opened project and the changes that were applied since; everything else follows from these.
 pub struct Shown {
     alloc: Global,
     opened: Snapshot<Plan>,
@@ -53,12 +53,12 @@ impl Model for Shown {
     ghost invariant = { CopiesFollow };
 }
 
-/// The value of a variable in its datagram's data, where its place ends.
+/// Returns the value of a variable from its datagram's data, which hold its place.
 fn read_number(bytes: &[u8], place: Place) -> u64
     requires { place.bit + place.bits ≤ 8 * length bytes.now }
     ensures { result ≡ number_at bytes.now place }
 {
-    // says what the single bits of the answer spell
+    // relates the number to its single bits
     reading_takes_list();
     get_bits(bytes, usize::from(place.bit), usize::from(place.bits))
 }
@@ -75,9 +75,8 @@ impl Shown {
     ghost use Rattle.hc_publish.specs.ChangesSince.{IsLegal, IsOpening, TakesNoMemory, data_shown, epoch_shown, just_answered, table_shown, with_change};
     ghost use Rattle.hc_publish.specs.Values.{value_shown};
 
-    /// What tasks see of a plan at its opening: the places of its line, epoch 0, and no datagram with data. It
-    /// has room for the longest data of every datagram that a line can have. `AllocError` where a growth was
-    /// refused.
+    /// Returns the copy of a plan at its opening: the places of its line, epoch 0, and no datagram with data. It has the
+    /// capacity for the longest data of every datagram that a line can have. `AllocError` if an allocation fails.
     pub fn of(alloc: Global, plan: &Plan) -> Result<Shown, AllocError>
         requires { IsOpening plan.now }
         ensures { IfOk result (λ shown. shown ≡ just_answered (groups_of plan.now.groups)) }
@@ -94,8 +93,8 @@ impl Shown {
         })
     }
 
-    /// A swap: the next epoch with its places, where no datagram has data. The memory for it is taken first;
-    /// `AllocError` where a growth was refused, and then nothing has changed.
+    /// Applies a swap: the next epoch with its places, in which no datagram has data. It allocates first. `AllocError` if an
+    /// allocation fails; then nothing has changed.
     fn take_swap(&mut self, swap: &Swap) -> Result<(), AllocError>
         ensures taken { MatchResult result (λ _. self.new ≡ with_change self.old (change.Swapped swap.now)) (λ _. self.new ≡ self.old) }
         ensures succeeds { KeepRows (table_shown self.old).variables swap.now.change.rows → IsOk result }
@@ -108,7 +107,7 @@ impl Shown {
         Ok(())
     }
 
-    /// A good answer: its datagram has its data from now on. It takes no memory.
+    /// Applies a good answer: its data are those of its datagram from now on. It allocates nothing.
     fn take_good(&mut self, good: &GoodAnswer)
         ensures { self.new ≡ with_change self.old (change.Good good.now) }
     {
@@ -117,9 +116,9 @@ impl Shown {
         self.history.add_good(good);
     }
 
-    /// Takes a change in, after those that were taken in before; it needn't be legal. A swap changes the copy
-    /// where it is, and costs what it changes; a good answer costs its bytes. Only a swap that makes a variable
-    /// appear or go takes memory: `AllocError` where that was refused, and then nothing has changed.
+    /// Applies a change after the earlier ones; the change need not be legal. A swap changes the copy in place, at the cost of
+    /// what differs; a good answer costs its bytes. It allocates only for a swap that makes a variable appear or go.
+    /// `AllocError` if an allocation fails; then nothing has changed.
     pub fn take_in(&mut self, change: &Change) -> Result<(), AllocError>
         ensures taken { MatchResult result (λ _. self.new ≡ with_change self.old change.now) (λ _. self.new ≡ self.old) }
         ensures succeeds { TakesNoMemory self.old change.now → IsOk result }
@@ -133,8 +132,8 @@ impl Shown {
         }
     }
 
-    /// The epoch: the number of swaps taken in, which in a legal list is the number of accepted edits. It stays
-    /// at the last epoch.
+    /// Returns the epoch: the number of applied swaps, which in a legal list is the number of accepted edits. It stays at the
+    /// last epoch.
     pub fn epoch(&self) -> u32
         ensures value { result ≡ min (epoch_shown self.now) LAST_EPOCH }
         ensures legal { IsLegal self.now → result ≡ epoch_shown self.now }
@@ -142,15 +141,14 @@ impl Shown {
         self.epoch
     }
 
-    /// The bytes of the outputs, which come first, and of the inputs of a task's image; 0 and 0 where there is
-    /// no such task.
+    /// Returns the sizes of a task's image in bytes, first the outputs, then the inputs; 0 and 0 for a task over 7.
     pub fn part(&self, task: u8) -> (u16, u16)
         ensures { result ≡ part_in (table_shown self.now) task }
     {
         self.places.part(task)
     }
 
-    /// The datagram of a task with a number; none where the task has fewer, or there is no such task.
+    /// Returns the datagram of a task with a number, or `None` if the task has fewer or is over 7.
     pub fn datagram(&self, task: u8, number: u8) -> Option<Datagram>
         ensures datagram { result ≡ datagram_in (table_shown self.now) task number }
         ensures ranges { IfSome result IsDatagram }
@@ -158,15 +156,15 @@ impl Shown {
         self.places.datagram(task, number)
     }
 
-    /// Where a variable is; none where it has no place in the line. It takes no memory.
+    /// Returns the place of a variable, or `None` if the line has no place for it. It allocates nothing.
     pub fn place(&self, variable: VarId) -> Option<Place>
         ensures { result ≡ place_in (table_shown self.now) variable }
     {
         self.places.place(variable)
     }
 
-    /// The data of a task's datagram, lent: those of its last good answer in this epoch, or none; none too where
-    /// no line has such a task or datagram. It takes no memory.
+    /// Lends the data of a task's datagram: those of its last good answer in this epoch. `None` if it has no good answer in
+    /// this epoch, or no line has such a task or datagram. It allocates nothing.
     pub fn data(&self, task: u8, datagram: u8) -> Option<&[u8]>
         ensures { option_copied result ≡ data_shown self.now task datagram }
     {
@@ -177,10 +175,13 @@ impl Shown {
         }
     }
 
-    /// The value of an input variable for a task: its bits in its datagram's data, the first one the least
-    /// significant, so it is below 2 to the power of the variable's bits. Otherwise the first of these that holds:
-    /// `NoSuchVariable` where the variable has no place in the line, `IsOutput` where it is an output, `OtherTask`
-    /// where it lies in another task, `NotAnswered` where its datagram has no data. It takes no memory.
+    /// Returns the value of an input variable for a task, from its bits in its datagram's data, the first one the least
+    /// significant. It is below 2 to the power of the variable's bits. It allocates nothing. Fails with the first of these:
+    ///
+    /// - `NoSuchVariable`: the line has no place for the variable.
+    /// - `IsOutput`: it is an output.
+    /// - `OtherTask`: it lies in another task.
+    /// - `NotAnswered`: its datagram has no data.
     pub fn value(&self, task: u8, variable: VarId) -> Result<u64, ViewFault>
         requires { IsLegal self.now }
         ensures { result ≡ value_shown self.now task variable }

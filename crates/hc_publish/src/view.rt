@@ -6,7 +6,7 @@ use std::marker::Model;
 
 mod steps;
 
-/// A seat that looks at the published copy. It is not `Drop`: end it by `leave`.
+/// A seat while it views the published copy. It is not `Drop`: end it by `leave`.
 pub struct View {
     pub(crate) task: u8,
     pub(crate) reading: Reading<Copy, Known, Image>,

@@ -1,11 +1,10 @@
-//! Why a task doesn't get a variable's value. A fault's number is part of the program's printed words and
-//! never changes.
+//! Faults of reading a variable's value. A fault's number is part of the program's printed words and never changes.
 ghost use Rattle.std.specs.Prelude.{◌≡◌};
 ghost use Rattle.hc_publish.specs.ViewFaults.{view_fault_number};
 
 use thiserror::Error;
 
-/// Why a task doesn't get a variable's value.
+/// The reason for which a task gets no value of a variable.
 #[derive(Clone, Copy, Debug, PartialEq, Eq, Error)]
 pub enum ViewFault {
     /// The variable has no place in the line.
@@ -23,7 +22,7 @@ pub enum ViewFault {
 }
 
 impl ViewFault {
-    /// The fault's number, 1 to 4.
+    /// Returns the fault's number, 1 to 4.
     pub fn number(self) -> u8
         ensures { result ≡ view_fault_number self }
     {

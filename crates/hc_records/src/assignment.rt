@@ -1,5 +1,5 @@
-//! What an area can be assigned: whether it offers the PDOs of a list of indexes, and how wide it is
-//! then. Widths are counted in bits up to one more than a datagram holds, so that no sum runs over.
+//! The assignment of PDOs to an area: the offered PDOs and the width of a list of indexes. Widths are counted in bits up to one
+//! more than a datagram holds, so that no sum overflows.
 ghost use Rattle.std.specs.Prelude.{◌≡◌, min};
 ghost use Rattle.std.specs.List.{flat_map};
 ghost use Rattle.hc_records.specs.Area.{entry_bits, entries_at};
@@ -26,14 +26,14 @@ impl Relation<u16> for SameNumber {
     }
 }
 
-/// Whether an index is twice in a list.
+/// Returns whether an index occurs twice in a list.
 pub fn repeats(indexes: &[u16]) -> bool
     ensures { result ≡ has_repeat indexes.now }
 {
     some_pair::<u16, SameNumber>(indexes)
 }
 
-/// The bits of entries, or `WIDTH_CAP` where they are more.
+/// Returns the bits of entries, or `WIDTH_CAP` if there are more.
 fn capped_bits(entries: &[Entry]) -> u32
     ensures { result ≡ min WIDTH_CAP (entry_bits entries.now) }
 {
@@ -44,7 +44,7 @@ fn capped_bits(entries: &[Entry]) -> u32
     total
 }
 
-/// The entries of the offered PDO with an index, none where it isn't offered.
+/// Returns the entries of the offered PDO with an index, or `None` if it is not offered.
 pub fn offered_entries(offered: &[Pdo], index: u16) -> &[Entry]
     ensures { result.now ≡ entries_at offered.now index }
 {
@@ -56,7 +56,7 @@ pub fn offered_entries(offered: &[Pdo], index: u16) -> &[Entry]
     &[]
 }
 
-/// The bits of offered PDOs in the order of their indexes, or `WIDTH_CAP` where they are more.
+/// Returns the bits of offered PDOs in the order of their indexes, or `WIDTH_CAP` if there are more.
 fn assigned_bits(offered: &[Pdo], indexes: &[u16]) -> u32
     ensures { result ≡ min WIDTH_CAP (entry_bits (flat_map (entries_at offered.now) indexes.now)) }
 {
@@ -67,7 +67,7 @@ fn assigned_bits(offered: &[Pdo], indexes: &[u16]) -> u32
     total
 }
 
-/// The bits of all offered PDOs, or `WIDTH_CAP` where they are more.
+/// Returns the bits of all offered PDOs, or `WIDTH_CAP` if there are more.
 fn all_bits(offered: &[Pdo]) -> u32
     ensures { result ≡ min WIDTH_CAP (offered_bits offered.now) }
 {
@@ -84,30 +84,30 @@ impl Area {
     ghost use Rattle.hc_records.specs.Project.{reach};
     ghost use Rattle.hc_records.specs.declared.limits.TheConstants.{MOST_AREA_BITS, MOST_DATAGRAM_BYTES};
 
-    /// Whether the area offers a PDO of an index.
+    /// Returns whether the area offers a PDO with an index.
     pub fn offers(&self, index: u16) -> bool
         ensures { result ≡ offers self.now index }
     {
         self.offered.as_slice().iter().any(|pdo| pdo.index == index)
     }
 
-    /// Whether one of the indexes isn't offered.
+    /// Returns whether one of the indexes is not offered.
     pub fn has_unknown(&self, indexes: &[u16]) -> bool
         ensures { result ≡ has_unknown indexes.now self.now }
     {
         indexes.iter().any(|index| !self.offers(*index))
     }
 
-    /// The width in bits with these PDOs assigned in place of those that are, or `WIDTH_CAP` where it
-    /// is more. An index that isn't offered has no bits.
+    /// Returns the width in bits with these PDOs assigned in place of the present ones, or `WIDTH_CAP` if it is more. An index
+    /// that is not offered has no bits.
     pub fn width_with(&self, indexes: &[u16]) -> u32
         ensures { result ≡ min WIDTH_CAP (width (record self.now { assigned = indexes.now })) }
     {
         assigned_bits(self.offered.as_slice(), indexes)
     }
 
-    /// The width in bits, 0 to 11,888: the bits of the assigned PDOs' entries. An area of a project
-    /// meets the condition.
+    /// Returns the width in bits, 0 to 11,888: the bits of the assigned PDOs' entries. An area of a project meets the
+    /// condition.
     pub fn width(&self) -> u16
         requires { width self.now ≤ MOST_AREA_BITS }
         ensures { result ≡ width self.now }
@@ -115,8 +115,8 @@ impl Area {
         self.width_with(self.assigned.as_slice()) as u16
     }
 
-    /// The bytes of its slave's memory that the area may take, 0 to 1,486: those of the bits of all
-    /// its offered PDOs, or of the widest area where these are more.
+    /// Returns the number of bytes of its slave's memory that the area may take, 0 to 1,486: those of the bits of all its
+    /// offered PDOs, or of the widest area if these are more.
     pub fn reach(&self) -> u32
         ensures value { result ≡ reach self.now }
         ensures low { result ≤ MOST_DATAGRAM_BYTES }

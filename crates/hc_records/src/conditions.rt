@@ -17,8 +17,8 @@ pub mod names;
 mod ranges;
 pub mod scan;
 
-/// Nothing where no fault's condition holds, else the lowest, or `Memory` where a growth was
-/// refused. The first takes no memory.
+/// Returns `Ok` if no fault's condition holds, and otherwise the lowest fault, or `Memory` if an allocation fails. The first
+/// fault needs no allocation.
 pub fn judge(alloc: Global, groups: &[Group]) -> Result<(), ProjectFault>
     ensures accepted { OnOk result (lowest_fault groups.now ≡ None) }
     ensures refused { IfErr result (λ fault. fault ≢ Memory → lowest_fault groups.now ≡ Some fault) }
@@ -120,7 +120,7 @@ impl Relation<Pdo> for SameIndex {
     }
 }
 
-/// An area whose assigned PDOs aren't offered PDOs, each once.
+/// An area whose assigned PDOs are not offered PDOs, each once.
 struct UnknownAssigned;
 
 impl Condition<Area> for UnknownAssigned {

@@ -1,4 +1,4 @@
-//! What a user asks of a running line.
+//! Edits of a running line.
 use crate::items::{Copied, Items};
 use crate::records::Group;
 use std::alloc::{AllocError, Global};
@@ -6,29 +6,29 @@ use std::alloc::{AllocError, Global};
 /// An edit of the line.
 #[derive(Debug, Drop)]
 pub enum Edit {
-    /// The group with this alias joins the line.
+    /// Connects the group with this alias.
     Connect(u16),
-    /// The group with this alias leaves the line.
+    /// Disconnects the group with this alias.
     Disconnect(u16),
-    /// An area of a present slave gets these PDOs assigned, in this order.
+    /// Assigns these PDOs, in this order, to an area of a present slave.
     Remap {
         /// The slave's configured station address.
         station: u16,
-        /// The area's place in the slave's record, from 0.
+        /// The area's index in the slave's record, from 0.
         area: u8,
         /// The indexes of the PDOs.
         pdos: Items<u16>,
     },
-    /// An area of a present slave moves to a task.
+    /// Moves an area of a present slave to a task.
     Move {
         /// The slave's configured station address.
         station: u16,
-        /// The area's place in the slave's record, from 0.
+        /// The area's index in the slave's record, from 0.
         area: u8,
         /// The task, 0 to 7.
         task: u8,
     },
-    /// A group is declared after the others. It is absent until it is connected.
+    /// Declares a group after the others. It is absent until it is connected.
     Declare(Group),
 }
 

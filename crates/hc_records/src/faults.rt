@@ -1,5 +1,4 @@
-//! Why a project or an edit is refused. A fault's number is part of the program's printed words
-//! and never changes.
+//! Faults of projects and edits. A fault's number is part of the program's printed words and never changes.
 ghost use Rattle.std.specs.Prelude.{◌≡◌};
 ghost use Rattle.hc_records.specs.ProjectFault.{project_fault_number};
 ghost use Rattle.hc_records.specs.EditFault.{edit_fault_number};
@@ -7,13 +6,13 @@ ghost use Rattle.hc_records.specs.EditFault.{edit_fault_number};
 use std::alloc::AllocError;
 use thiserror::Error;
 
-/// Why a project is refused.
+/// The reason for which a project is refused.
 #[derive(Clone, Copy, Debug, PartialEq, Eq, Error)]
 pub enum ProjectFault {
     /// The text is no TOML document.
     #[error("the text is no TOML document")]
     NotToml,
-    /// A needed key is absent, or a value isn't of its kind.
+    /// A needed key is absent, or a value is of another kind.
     #[error("a needed key is absent or a value is of another kind")]
     MissingField,
     /// A number, a list's length or the memory that an area may take is outside its range.
@@ -34,13 +33,13 @@ pub enum ProjectFault {
     /// A variable is in two entries.
     #[error("a variable stands in two entries")]
     RepeatedVariable,
-    /// An assigned PDO isn't offered or is assigned twice, or two offered PDOs have one index.
+    /// An assigned PDO is not offered or is assigned twice, or two offered PDOs have one index.
     #[error("an assigned PDO is not one offered PDO")]
     UnknownPdo,
     /// The assigned PDOs of an area have more bits than a datagram.
     #[error("an area is wider than a datagram")]
     AreaTooBig,
-    /// A growth was refused.
+    /// An allocation failed.
     #[error("out of memory")]
     Memory,
     /// The text of a group has a mandatory slave, or not exactly one group.
@@ -49,7 +48,7 @@ pub enum ProjectFault {
 }
 
 impl ProjectFault {
-    /// The fault's number, 1 to 12.
+    /// Returns the fault's number, 1 to 12.
     pub fn number(self) -> u8
         ensures { result ≡ project_fault_number self }
     {
@@ -81,7 +80,7 @@ impl From<AllocError> for ProjectFault {
     }
 }
 
-/// Why an edit of the line is refused.
+/// The reason for which an edit of the line is refused.
 #[derive(Clone, Copy, Debug, PartialEq, Eq, Error)]
 pub enum EditFault {
     /// No group has the alias.
@@ -90,16 +89,16 @@ pub enum EditFault {
     /// The group is in the line already.
     #[error("the group is present already")]
     AlreadyPresent,
-    /// The group isn't in the line.
+    /// The group is not in the line.
     #[error("the group is not present")]
     NotPresent,
-    /// The mandatory group can't be disconnected.
+    /// The mandatory group cannot be disconnected.
     #[error("the mandatory group stays")]
     Mandatory,
     /// No declared slave has the station address.
     #[error("no slave has the station address")]
     UnknownStation,
-    /// The slave's group isn't in the line.
+    /// The slave's group is not in the line.
     #[error("the slave is not present")]
     Absent,
     /// The slave has no such area.
@@ -108,10 +107,10 @@ pub enum EditFault {
     /// Tasks are numbered 0 to 7.
     #[error("there is no such task")]
     NoSuchTask,
-    /// The area doesn't offer a PDO of the index.
+    /// The area does not offer a PDO with the index.
     #[error("the area does not offer the PDO")]
     UnknownPdo,
-    /// An index is twice.
+    /// An index occurs twice.
     #[error("a PDO is named twice")]
     RepeatedPdo,
     /// The PDOs have more bits than a datagram.
@@ -123,7 +122,7 @@ pub enum EditFault {
     /// The last epoch is reached.
     #[error("no epoch is left")]
     EpochsSpent,
-    /// A growth was refused.
+    /// An allocation failed.
     #[error("out of memory")]
     Memory,
     /// The declared group has this fault by itself.
@@ -147,7 +146,7 @@ pub enum EditFault {
 }
 
 impl EditFault {
-    /// The fault's number, 1 to 14, and 30 to 35 for a declared group's.
+    /// Returns the fault's number, 1 to 14, and 30 to 35 for a declared group's.
     pub fn number(self) -> u8
         ensures { result ≡ edit_fault_number self }
     {

@@ -1,5 +1,4 @@
-//! A list that keeps its allocator and that contracts see as the list of its elements. Every
-//! record's collection is one.
+//! A list with its allocator, which contracts see as the list of its elements. Every record's collection is one.
 ghost use Rattle.std.specs.Borrow.{sem};
 ghost use Rattle.std.specs.Prelude.{◌≡◌, ◌<◌, ◌↔◌, List, [], ◌∷◌, ◌++◌, length, slice_index_or, is_ok, if◌then◌else◌, IfErr, IfOk, IsTrue};
 ghost use Rattle.hc_records.specs.Lending.{LendsItem};
@@ -7,17 +6,16 @@ ghost use Rattle.hc_records.specs.Lending.{LendsItem};
 use std::alloc::{AllocError, AllocFailed, Global};
 use std::marker::Model;
 
-/// What can be copied into memory of an allocator.
+/// A value that can be copied into memory of an allocator.
 pub trait Copied: Drop {
-    /// A copy that equals this value, or `AllocError` where a growth was refused. This value stays
-    /// as it is.
+    /// Returns a copy that equals this value. `AllocError` if an allocation fails. This value stays as it is.
     fn copied(&self, alloc: Global) -> Result<Self, AllocError>
         ensures { IfOk result (λ copy. copy ≡ self.now) };
 }
 
-/// What can be compared as a whole.
+/// A value that can be compared as a whole.
 pub trait Same {
-    /// Whether two values are equal.
+    /// Returns whether two values are equal.
     fn is_same(&self, other: &Self) -> bool
         ensures { IsTrue result ↔ (self.now ≡ other.now) };
 }
@@ -34,7 +32,7 @@ impl Same for u16 {
     }
 }
 
-/// A list that keeps its allocator.
+/// A list with its allocator.
 #[derive(Drop, Debug)]
 pub struct Items<T> {
     pub(crate) inside: Vec<T>,
@@ -49,7 +47,7 @@ impl<T> Model for Items<T> {
 }
 
 impl<T> Items<T> {
-    /// An empty list. It takes no memory until the first `push`.
+    /// Returns an empty list. It allocates nothing until the first `push`.
     pub fn new(alloc: Global) -> Self
         ensures { result ≡ [] }
     {
@@ -58,14 +56,14 @@ impl<T> Items<T> {
         }
     }
 
-    /// The list of a vector's elements, in its memory.
+    /// Returns the list of a vector's elements, in its memory.
     pub fn of(inside: Vec<T>) -> Self
         ensures { result ≡ inside.items }
     {
         Items { inside }
     }
 
-    /// The elements as a vector, in the same memory.
+    /// Returns the elements as a vector, in the same memory.
     pub fn into_vec(self) -> Vec<T>
         ensures { result.items ≡ self }
     {
@@ -73,29 +71,28 @@ impl<T> Items<T> {
         inside
     }
 
-    /// The elements, in order.
+    /// Returns the elements, in order.
     pub fn as_slice(&self) -> &[T]
         ensures { result.now ≡ self.now }
     {
         self.inside.as_slice()
     }
 
-    /// The number of elements.
+    /// Returns the number of elements.
     pub fn len(&self) -> usize
         ensures { result ≡ length self.now }
     {
         self.inside.len()
     }
 
-    /// Whether there is no element.
+    /// Returns whether there is no element.
     pub fn is_empty(&self) -> bool
         ensures { IsTrue result ↔ (self.now ≡ []) }
     {
         self.inside.is_empty()
     }
 
-    /// Adds an element at the end. Where a growth is refused the element comes back and the list
-    /// stays as it was.
+    /// Appends an element. If an allocation fails the element is returned and the list is unchanged.
     pub fn push(&mut self, item: T) -> Result<(), AllocFailed<T>>
         ensures items { self.new ≡ (if is_ok result then self.old ++ item ∷ [] else self.old) }
         ensures returned { IfErr result (λ refused. refused.value ≡ item) }
@@ -103,8 +100,8 @@ impl<T> Items<T> {
         self.inside.push(item)
     }
 
-    /// The element at an index below the length, lent for writing: when the loan ends the list has
-    /// the value last written there, and every other element as it was.
+    /// Lends the element at an index below the length for writing. After the loan the list has the value last written there,
+    /// and every other element is unchanged.
     pub fn item_mut(&mut self, index: usize) -> &mut T
         requires { index < length self.old }
         ensures* writes_back { sem 𝓛 (LendsItem T.row self.entry index result) }

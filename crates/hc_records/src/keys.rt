@@ -4,15 +4,14 @@ ghost use Rattle.hc_records.specs.Keys.{is_before, same_key};
 
 use crate::records::Dir;
 
-/// The key of an area: outputs before inputs, then by the slave's rank, then by the area's place in
-/// the slave's record.
+/// The key of an area: outputs before inputs, then by the slave's rank, then by the area's index in the slave's record.
 #[derive(Clone, Copy, Debug, PartialEq, Eq, PartialOrd, Ord)]
 pub struct Key {
     /// The area's direction.
     pub dir: Dir,
-    /// The slave's place among all declared slaves, present or not, counted from 1.
+    /// The slave's rank: its number among all declared slaves, present or not, from 1.
     pub rank: u16,
-    /// The area's place in the slave's record, counted from 0.
+    /// The area's index in the slave's record, from 0.
     pub area: u8,
 }
 
@@ -31,14 +30,14 @@ impl Key {
         area: u8::MAX,
     };
 
-    /// Whether this key comes before another.
+    /// Returns whether this key comes before another.
     pub fn is_before(self, other: Key) -> bool
         ensures { result ≡ is_before self other }
     {
         self < other
     }
 
-    /// Whether this key is another.
+    /// Returns whether this key differs from another.
     pub fn is_same(self, other: Key) -> bool
         ensures { result ≡ same_key self other }
     {

@@ -1,4 +1,4 @@
-//! The limits of a project, in one place. Each says where it comes from.
+//! The limits of a project, in one place, each with its source.
 
 /// The most slaves that a project declares, over all its groups (this project's profile).
 pub const MOST_SLAVES: usize = 2048;
@@ -15,12 +15,11 @@ pub const MOST_PDOS: usize = 32;
 /// The most entries of a PDO (this project's profile).
 pub const MOST_ENTRIES: usize = 64;
 
-/// The most bits of an entry: what a variable's value holds (this project's profile).
+/// The most bits of an entry, as many as a variable's value holds (this project's profile).
 pub const MOST_ENTRY_BITS: u8 = 64;
 
-/// The most data bytes of a datagram: what is left of the 1,500 bytes of an Ethernet frame's data
-/// after the EtherCAT header (2), the datagram's header (10) and its working counter (2)
-/// (ETG.1000.4, 5.3 and 5.4).
+/// The most data bytes of a datagram: the 1,500 bytes of an Ethernet frame's data without the EtherCAT header (2), the
+/// datagram's header (10) and its working counter (2) (ETG.1000.4, 5.3 and 5.4).
 pub const MOST_DATAGRAM_BYTES: u16 = 1486;
 
 /// The most bits of an area, which is never split over datagrams: those of the longest datagram,

@@ -24,14 +24,14 @@ impl<'a> Model for Member<'a> {
 impl<'a> Member<'a> {
     ghost use Rattle.std.specs.Prelude.{◌≡◌};
 
-    /// The slave's place among all declared slaves, present or not, counted from 1.
+    /// Returns the slave's rank: its number among all declared slaves, present or not, from 1.
     pub fn rank(&self) -> u16
         ensures { result ≡ self.now.rank }
     {
         self.rank
     }
 
-    /// The slave's record.
+    /// Returns the slave's record.
     pub fn slave(&self) -> &'a Slave
         ensures { result.now ≡ self.now.slave }
     {
@@ -39,11 +39,10 @@ impl<'a> Member<'a> {
     }
 }
 
-/// The slaves of the line that a walk has not reached yet, in declared order. Contracts see it as
-/// the list of them.
+/// The slaves of the line that an iteration has not reached yet, in declared order. Contracts see the list of them.
 #[derive(Debug, Drop)]
 pub struct LineMembers<'a> {
-    // the slaves that are left of the group that the walk has reached
+    // the slaves that are left of the group that the iteration has reached
     slaves: &'a [Slave],
     // the rank of the first of them, or of the first slave after them
     rank: usize,
@@ -62,8 +61,8 @@ impl<'a> Model for LineMembers<'a> {
     ghost invariant = { λ left. left.rank + length left.slaves.now + sum_by (λ declared. length declared.group.slaves) left.groups.now ≤ 65535 };
 }
 
-/// The slaves of the line, in declared order, one by one. The walk takes no memory, and each step
-/// the time of one slave and of the groups passed.
+/// Returns the slaves of the line, in declared order, one by one. The iteration allocates nothing, and each step takes the time
+/// of one slave and of the groups passed.
 pub fn members(groups: &[Declared]) -> LineMembers<'_>
     requires { IsCounted groups.now }
     ensures value { result ≡ line_from 1 groups.now }

@@ -1,4 +1,4 @@
-//! A project: declared groups where every value is in its range and every name is once.
+//! Projects: declared groups in which every value is in its range and every name occurs once.
 ghost use Rattle.std.specs.Prelude.{◌≡◌, ◌≢◌, Err, None, Some, IfErr, IfOk, IsTrue, OnOk};
 ghost use Rattle.hc_records.specs.Edits.{smallest_project};
 ghost use Rattle.hc_records.specs.Limits.{IsProjectInside};
@@ -12,7 +12,7 @@ use crate::records::Group;
 use std::alloc::{AllocError, Global};
 use std::marker::Model;
 
-/// Declared groups, the mandatory one first, where no fault's condition holds.
+/// Declared groups, the mandatory one first, for which no fault's condition holds.
 #[derive(Debug, Drop)]
 pub struct Project {
     groups: Items<Group>,
@@ -32,9 +32,9 @@ impl Model for Project {
 }
 
 impl Project {
-    /// The project of declared groups. Otherwise the lowest fault whose condition holds over all of
-    /// them, from `OutOfRange` to `AreaTooBig`, or `Memory` where a growth was refused; the groups
-    /// are then dropped. `OutOfRange` is judged before memory is taken.
+    /// Returns the project of declared groups. Fails with the lowest fault whose condition holds over all of them, from
+    /// `OutOfRange` to `AreaTooBig`, or with `Memory` if an allocation fails; then the groups are dropped. `OutOfRange` is
+    /// judged before any allocation.
     pub fn checked(alloc: Global, groups: Items<Group>) -> Result<Project, ProjectFault>
         ensures project { IfOk result (λ project. project ≡ groups) }
         ensures accepted { OnOk result (lowest_fault groups ≡ None) }
@@ -45,7 +45,7 @@ impl Project {
         Ok(Project { groups })
     }
 
-    /// The declared groups, the mandatory one first.
+    /// Returns the declared groups, the mandatory one first.
     pub fn groups(&self) -> &[Group]
         ensures value { result.now ≡ self.now }
         ensures unchanged { lowest_fault self.now ≡ None }
@@ -54,7 +54,7 @@ impl Project {
         self.groups.as_slice()
     }
 
-    /// Hands the groups out.
+    /// Returns the declared groups, and ends the project.
     pub fn into_groups(self) -> Items<Group>
         ensures value { result ≡ self }
         ensures unchanged { lowest_fault self ≡ None }
@@ -64,7 +64,7 @@ impl Project {
     }
 }
 
-/// An empty mandatory group, and a copy of a group after it.
+/// Returns an empty mandatory group, and a copy of a group after it.
 fn alone(alloc: Global, group: &Group) -> Result<Vec<Group>, AllocError>
     ensures { IfOk result (λ groups. groups.items ≡ smallest_project group.now) }
 {
@@ -78,9 +78,9 @@ fn alone(alloc: Global, group: &Group) -> Result<Vec<Group>, AllocError>
 }
 
 impl Group {
-    /// A copy of the group, if it may be in a project: no fault's condition holds of it beside an empty
-    /// mandatory group. Otherwise the lowest of the faults from `OutOfRange` to `AreaTooBig` whose
-    /// condition holds, or `Memory` where a growth was refused. The group stays as it is.
+    /// Returns a copy of the group, if it may be in a project: no fault's condition holds for it beside an empty mandatory
+    /// group. The group is unchanged. Fails with the lowest fault from `OutOfRange` to `AreaTooBig` whose condition holds, or
+    /// with `Memory` if an allocation fails.
     pub fn checked(&self, alloc: Global) -> Result<Group, ProjectFault>
         ensures copy { IfOk result (λ copy. copy ≡ self.now) }
         ensures accepted { OnOk result (lowest_fault (smallest_project self.now) ≡ None) }

@@ -1,5 +1,5 @@
-//! The records of a project: groups of slaves that come and go together, their process data areas,
-//! and the PDOs that an area offers.
+//! The records of a project: groups of slaves that are connected and disconnected together, their process data areas, and the
+//! PDOs that an area offers.
 ghost use Rattle.std.specs.Prelude.{◌≡◌, ◌<◌};
 ghost use Rattle.hc_records.specs.Variables.{variable_of};
 
@@ -33,7 +33,7 @@ impl Model for VarId {
 }
 
 impl VarId {
-    /// The variable of a number, none for 0.
+    /// Returns the variable with a number, or `None` for 0.
     pub fn new(number: u32) -> Option<VarId>
         ensures { result ≡ variable_of number }
     {
@@ -43,7 +43,7 @@ impl VarId {
         Some(VarId(number))
     }
 
-    /// The variable's number, 1 or more.
+    /// Returns the variable's number, 1 or more.
     pub fn number(self) -> u32
         ensures value { result ≡ self }
         ensures above_zero { 0 < result }
@@ -90,7 +90,7 @@ pub struct Slave {
     pub areas: Items<Area>,
 }
 
-/// The slaves that come and go together: a tool, a docked module, or the mandatory ones.
+/// Slaves that are connected and disconnected together: a tool, a docked module, or the mandatory ones.
 #[derive(Debug, Drop)]
 pub struct Group {
     /// The configured station alias of its first slave, 1 to 65,535; 0 for the mandatory group.

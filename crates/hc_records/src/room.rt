@@ -1,12 +1,11 @@
-//! Memory for a list that will grow, taken before anything changes, so that the growth itself can't be
-//! refused.
+//! Memory for a list that will grow, allocated before anything changes, so that the growth itself cannot fail.
 ghost use Rattle.std.specs.Prelude.{◌≡◌, ◌+◌, ◌≤◌, ◌++◌, [], ◌∷◌, length, vec_capacity, IfOk};
 
 use crate::items::Items;
 use std::alloc::{AllocError, Global};
 use std::marker::Model;
 
-/// Memory for a list that will grow. Contracts see it as the number of elements that it has room for.
+/// Memory for a list that will grow. Contracts see the number of elements that it holds.
 #[derive(Drop)]
 pub struct Room<T> {
     space: Vec<T>,
@@ -23,9 +22,8 @@ impl<T> Model for Room<T> {
 }
 
 impl<T: Drop> Room<T> {
-    /// Memory for the elements of a list and so many more after them: for twice as many where the list's
-    /// own memory has no room for these, so that a list which grows bit by bit rarely moves. `AllocError`
-    /// where the growth was refused.
+    /// Returns memory for the elements of a list, and for `more` after them: for twice as many if the list's own memory is too
+    /// small, so that a list that grows bit by bit rarely moves. `AllocError` if an allocation fails.
     pub fn for_more(alloc: Global, list: &Vec<T>, more: usize) -> Result<Room<T>, AllocError>
         ensures { IfOk result (λ room. length list.now.items + more ≤ room) }
     {
@@ -42,8 +40,8 @@ impl<T: Drop> Room<T> {
         })
     }
 
-    /// Gives a list room for so many more elements: its own memory stays where it has that room, else its
-    /// elements go over into this memory, which is the list's from then on. Nothing can be refused.
+    /// Gives a list the capacity for more elements: its own memory stays if it suffices, and otherwise its elements move to
+    /// this memory, which is then the list's. It cannot fail.
     pub fn widen(self, list: &mut Vec<T>, more: usize)
         requires { length list.old.items + more ≤ self }
         ensures items { list.new.items ≡ list.old.items }
@@ -59,15 +57,15 @@ impl<T: Drop> Room<T> {
 }
 
 impl<T: Drop> Items<T> {
-    /// Memory that the list needs to grow by so many elements, taken beside it; `AllocError` where it was
-    /// refused. The list stays as it is.
+    /// Returns the memory that the list needs to grow by a number of elements. `AllocError` if an allocation fails. The list is
+    /// unchanged.
     pub fn room_for(&self, alloc: Global, more: usize) -> Result<Room<T>, AllocError>
         ensures { IfOk result (λ room. length self.now + more ≤ room) }
     {
         Room::for_more(alloc, &self.inside, more)
     }
 
-    /// Adds an element at the end, with the help of memory that was taken before. Nothing can be refused.
+    /// Appends an element, in memory that was reserved. It cannot fail.
     pub fn push_into(&mut self, room: Room<T>, item: T)
         requires { length self.old + 1 ≤ room }
         ensures { self.new ≡ self.old ++ item ∷ [] }

@@ -1,11 +1,11 @@
-//! The cyclic tasks of a project, by their numbers. The crates above name a task by it where the number is
-//! known to be below 8; what comes from project text or from a user is a number until it was compared with `TASKS`.
+//! The cyclic tasks of a project, by their numbers. The crates above use this type if the number is known to be below 8; a
+//! number from project text or from a user is a plain number until it was compared with `TASKS`.
 ghost use Rattle.std.specs.Prelude.{◌≡◌, ◌<◌};
 ghost use Rattle.hc_records.specs.declared.limits.TheConstants.{TASKS};
 
 use std::marker::Model;
 
-/// A cyclic task: its number, 0 to 7. Whoever writes `Task(number)` shows that the number is below 8.
+/// A cyclic task: its number, 0 to 7. Code that writes `Task(number)` proves that the number is below 8.
 #[derive(Clone, Copy, Debug, PartialEq, Eq)]
 pub struct Task(pub u8);
 
@@ -23,7 +23,7 @@ impl Model for Task {
 }
 
 impl Task {
-    /// The task's number, which is 0 to 7.
+    /// Returns the task's number, 0 to 7.
     pub fn number(self) -> u8
         ensures value { result ≡ self }
         ensures below { self < TASKS }
@@ -31,7 +31,7 @@ impl Task {
         self.0
     }
 
-    /// The task's index in a list of the eight tasks: its number.
+    /// Returns the task's index in a list of the eight tasks: its number.
     pub fn as_index(self) -> usize
         ensures value { result ≡ self }
         ensures below { self < TASKS }

@@ -80,7 +80,7 @@ impl Block {
     ghost use Rattle.hc_records.specs.declared.limits.TheConstants.{LAST_SYNC_MANAGER, MOST_AREA_BITS, MOST_AREAS};
     ghost use Rattle.hc_registers.specs.Blocks.{IsMappable, fmmu_block, sync_manager_block};
 
-    /// The same by a caller that knows the area's width in bits: the area's PDOs aren't walked for it.
+    /// Returns the sync manager block of an area whose width in bits the caller knows: the area's PDOs are not read for it.
     pub fn sized_sync_manager(area: &Area, bits: u16) -> Block
         requires width { width area.now ≤ MOST_AREA_BITS }
         requires number { area.now.sm ≤ LAST_SYNC_MANAGER }
@@ -105,8 +105,7 @@ impl Block {
         fmmu_of(index, fmmu_block(area, mapping))
     }
 
-    /// The same of an area that is mapped, by a caller that knows its width in bits: the area's PDOs
-    /// aren't walked for it.
+    /// Returns the FMMU block of a mapped area whose width in bits the caller knows: the area's PDOs are not read for it.
     pub fn mapped_fmmu(index: u8, area: &Area, bits: u16, mapping: Mapping) -> Block
         requires index { index < MOST_AREAS }
         requires bits { bits ≡ width area.now }
@@ -116,7 +115,7 @@ impl Block {
         fmmu_of(index, mapped_block(area, bits, mapping))
     }
 
-    /// The same block once more. It takes no memory, as the block has its bytes in itself.
+    /// Returns a copy of the block. It allocates nothing, as the block has its bytes in itself.
     pub fn copied(&self) -> Block
         ensures { result ≡ self.now }
     {

@@ -11,3 +11,6 @@ pub mod rank_laws;
 pub mod ranked;
 pub mod registers;
 pub mod sync_manager;
+
+pub use blocks::{Block, LineBlock};
+pub use fmmu::Mapping;

@@ -16,7 +16,7 @@ pub use opening::frame_ring;
 #[derive(Drop)]
 pub struct FrameSender {
     ring: Producer<FrameBox>,
-    // It is full only once as many frames were sent as there is room for.
+    // It is full only after as many frames were sent as its capacity.
     ghost places: { producer_capacity ring ≤ known_free ring + length (sent ring) },
 }
 

@@ -1,4 +1,4 @@
-//! The end of a ring that posts come out of. A `PostReceiver` owns it; it knows whether the end has come.
+//! The end of a ring at which posts come out. A `PostReceiver` owns it, and knows whether the end has come.
 ghost use Rattle.std.specs.Prelude.{◌≡◌, [], true};
 ghost use Rattle.rtrb.specs.Ring.{received, known_items, consumer_capacity};
 ghost use Rattle.hc_rings.specs.Items.{posts_of, items_of};
@@ -10,7 +10,7 @@ use crate::posts::PostsEnd;
 use rtrb::Consumer;
 use std::alloc::Global;
 
-/// The ring has room for four posts and the end.
+/// The ring has a capacity of four posts and the end.
 #[derive(Drop)]
 pub(crate) struct IncomingPosts {
     pub(crate) ring: Consumer<Item, Global, EndComesLast>,
@@ -27,7 +27,7 @@ impl IncomingPosts {
     ghost use Rattle.hc_rings.specs.Items.{posts_of};
     ghost use Rattle.hc_rings.specs.Ends.{put_in, came_out, known_ahead};
 
-    /// The next post, or `None` where none is found or the end comes.
+    /// Takes the next post, or returns `None` if none is found or the end comes.
     pub(crate) fn next(&mut self) -> Option<PostBuffer>
         ensures ring { SameConsumer self.old.ring self.new.ring }
         ensures some { IfSome result (λ b. came_out self.new ≡ came_out self.old ++ b ∷ []) }
@@ -53,7 +53,7 @@ impl IncomingPosts {
         }
     }
 
-    /// Whether the sender is gone. No contract speaks of the answer.
+    /// Returns whether the sender is gone. No contract speaks of the result.
     pub(crate) fn is_abandoned(&mut self) -> bool
         ensures ring { SameConsumer self.old.ring self.new.ring }
         ensures came { (received self.new.ring ≡ received self.old.ring) × (self.new.ended ≡ self.old.ended) }
@@ -62,7 +62,7 @@ impl IncomingPosts {
         self.ended || self.ring.is_abandoned()
     }
 
-    /// How many posts are in the ring, for a thread that holds both ends.
+    /// Returns how many posts are in the ring, for a thread that holds both ends.
     pub(crate) fn beside(&mut self, outgoing: &mut OutgoingPosts) -> usize
         requires { IsPair outgoing.old.ring self.old.ring }
         ensures ring { SameConsumer self.old.ring self.new.ring × SameProducer outgoing.old.ring outgoing.new.ring }
@@ -77,7 +77,7 @@ impl IncomingPosts {
         self.ring.slots_beside(&mut outgoing.ring)
     }
 
-    /// How many posts are in the ring, once its other end has finished.
+    /// Returns how many posts are in the ring, after its other end has finished.
     pub(crate) fn after(&mut self, end: &mut PostsEnd) -> usize
         requires { IsFinishedOf end.old.items self.old.ring }
         ensures ring { SameConsumer self.old.ring self.new.ring }

@@ -1,10 +1,10 @@
-//! What goes through a ring of posts, and where order.
+//! The items of a post ring and their order.
 ghost use Rattle.hc_rings.specs.Items.{EndIsLast};
 
 use crate::post_buffer::PostBuffer;
 use rtrb::Protocol;
 
-/// A post, or the end that the sender leaves as it is dropped.
+/// A post, or the end that the sender stores when it is dropped.
 #[derive(Drop)]
 pub(crate) enum Item {
     Buffer(PostBuffer),

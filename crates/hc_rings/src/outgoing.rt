@@ -1,4 +1,4 @@
-//! The end of a ring that posts go into. A `PostSender` owns it; as it is dropped it leaves the end after the last post.
+//! The end of a ring at which posts go in. A `PostSender` owns it; when it is dropped it stores the end after the last post.
 ghost use Rattle.std.specs.Prelude.{◌≡◌, ◌+◌, ◌≤◌, true, length};
 ghost use Rattle.rtrb.specs.Ring.{sent, known_free, producer_capacity};
 ghost use Rattle.hc_rings.specs.Items.{is_open};
@@ -9,7 +9,7 @@ use crate::posts::{POSTS_WAITING, PostsEnd};
 use rtrb::Producer;
 use std::alloc::Global;
 
-/// It keeps one place for the end.
+/// It reserves one place for the end.
 pub(crate) struct OutgoingPosts {
     pub(crate) ring: Producer<Item, Global, EndComesLast>,
     ghost not_ended: { is_open (sent ring) ≡ true },
@@ -25,7 +25,7 @@ impl OutgoingPosts {
     ghost use Rattle.hc_rings.specs.declared.incoming.IncomingPosts.{IncomingPosts};
     ghost use Rattle.hc_rings.specs.Ends.{put_in};
 
-    /// Puts a post into the ring, or hands it back where four are waiting.
+    /// Puts a post into the ring, or returns it if four posts wait.
     #[tactic(auto, using(crate::proofs::Items::posts_of_append, crate::proofs::Items::is_open_post, crate::proofs::Items::length_posts_of))]
     pub(crate) fn post(&mut self, buffer: PostBuffer) -> Result<(), PostBuffer>
         ensures ring { SameProducer self.old.ring self.new.ring }
@@ -42,7 +42,7 @@ impl OutgoingPosts {
         Ok(())
     }
 
-    /// Whether the other end is gone. No contract speaks of the answer.
+    /// Returns whether the other end is gone. No contract speaks of the result.
     pub(crate) fn is_abandoned(&mut self) -> bool
         ensures ring { SameProducer self.old.ring self.new.ring }
         ensures sent { sent self.new.ring ≡ sent self.old.ring }
@@ -51,7 +51,7 @@ impl OutgoingPosts {
         self.ring.is_abandoned()
     }
 
-    /// Leaves the end, and says all that went in. `None` where the other end of the ring is gone.
+    /// Stores the end, and returns all posts that went in. `None` if the other end of the ring is gone.
     #[tactic(auto, using(crate::proofs::Items::posts_of_ended, crate::proofs::Items::items_of_ended))]
     pub(crate) fn finish(self) -> Option<PostsEnd>
         ensures ring { IfSome result (λ end. (incoming : IncomingPosts) → IsPair self.ring incoming.ring → IsFinishedOf end.items incoming.ring) }

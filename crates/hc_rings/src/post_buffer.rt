@@ -1,4 +1,5 @@
-//! The buffer of a post. Task seats fill it and the conductor reads it; it goes through the ring whole and comes back as a spare.
+//! The buffer of a post. A task's seat fills it and the conductor reads it; it goes through the ring whole and returns as a
+//! spare.
 ghost use Rattle.std.specs.Prelude.{◌≡◌, ◌≤◌, length, IfOk};
 ghost use Rattle.std.specs.Borrow.{sem};
 ghost use Rattle.hc_rings.specs.Post.{blank_post};
@@ -10,8 +11,8 @@ use std::marker::Model;
 /// The most bytes that the image of a task has: 16 datagrams of 1,486 bytes each.
 pub const LARGEST_IMAGE: usize = 16 * 1486;
 
-/// An epoch and the output bytes that are posted for it, with room for the largest image from the start. Contracts see it
-/// as a `Post`. None of its calls takes memory.
+/// An epoch and the output bytes that are posted for it. Its memory suffices from the start for the largest image. Contracts
+/// see a `Post`. None of its calls allocates.
 #[derive(Debug, Drop)]
 pub struct PostBuffer {
     epoch: u32,
@@ -30,7 +31,7 @@ impl Model for PostBuffer {
 }
 
 impl PostBuffer {
-    /// A buffer with no bytes, for epoch 0.
+    /// Returns a buffer without bytes, for epoch 0.
     pub(crate) fn new(alloc: Global) -> Result<PostBuffer, AllocError>
         ensures { IfOk result (λ b. b ≡ blank_post 0 0) }
     {
@@ -38,14 +39,14 @@ impl PostBuffer {
         Ok(PostBuffer { epoch: 0, bytes })
     }
 
-    /// The epoch that the post is for.
+    /// Returns the epoch of the post.
     pub fn epoch(&self) -> u32
         ensures { result ≡ self.now.epoch }
     {
         self.epoch
     }
 
-    /// The output bytes, at most 23,776.
+    /// Returns the output bytes, at most 23,776.
     pub fn bytes(&self) -> &[u8]
         ensures bytes { result.now ≡ self.now.bytes }
         ensures most { length result.now ≤ LARGEST_IMAGE }
@@ -63,7 +64,7 @@ impl PostBuffer {
         self.bytes.resize(size, 0).unwrap();
     }
 
-    /// Lends the output bytes for writing. The epoch stays, and so does the number of bytes.
+    /// Lends the output bytes for writing. The epoch and the number of bytes stay.
     pub fn bytes_mut(&mut self) -> &mut [u8]
         ensures* written { sem 𝓛 (LendsPost self.entry result) }
         ensures bytes { result.now ≡ self.old.bytes }

@@ -1,4 +1,4 @@
-//! The two ends of a ring of posts: a task seat posts at one, and the conductor takes at the other and gives the buffers back.
+//! The two ends of a ring of posts: a task's seat posts at one, and the conductor takes at the other and returns the buffers.
 ghost use Rattle.std.specs.Prelude.{◌≡◌, ◌≤◌, ◌++◌};
 ghost use Rattle.std.specs.VecDeque.{deque_len, deque_capacity};
 ghost use Rattle.rtrb.specs.Ring.{received, producer_capacity};
@@ -22,13 +22,13 @@ pub use holding::PostFault;
 pub use opening::post_ring;
 pub use sending::{Full, NoSpare};
 
-/// How many posts may wait in a ring.
+/// The most posts that wait in a ring.
 pub const POSTS_WAITING: usize = 4;
 
-/// How many buffers a ring has for its posts.
+/// The number of buffers that a ring has for its posts.
 pub const SPARE_BUFFERS: usize = 4;
 
-/// The end that posts. It may go to a thread of its own. As it is dropped the receiver learns that no post follows.
+/// The end that posts. It may go to a thread of its own. When it is dropped the receiver learns that no post follows.
 #[derive(Drop)]
 pub struct PostSender {
     posts: OutgoingPosts,
@@ -37,7 +37,7 @@ pub struct PostSender {
     held: Option<PostBuffer>,
 }
 
-/// The end that takes posts and gives their buffers back. It may go to a thread of its own.
+/// The end that takes posts and returns their buffers. It may go to a thread of its own.
 #[derive(Drop)]
 pub struct PostReceiver {
     posts: IncomingPosts,

@@ -1,4 +1,4 @@
-//! The end of a ring that spare buffers come out of. A `PostSender` owns it.
+//! The end of a ring at which spare buffers come out. A `PostSender` owns it.
 ghost use Rattle.std.specs.Prelude.{◌+◌, ◌≤◌, length};
 ghost use Rattle.rtrb.specs.Ring.{received, known_items};
 
@@ -16,7 +16,7 @@ impl SpareBuffers {
     ghost use Rattle.std.specs.Prelude.{◌≡◌, ◌+◌, ◌<◌, ◌≤◌, length, IsSome, OnSome, IfNone};
     ghost use Rattle.rtrb.specs.Ring.{known_items, received, SameConsumer};
 
-    /// A spare buffer, or `None` where none is found.
+    /// Returns a spare buffer, or `None` if none is found.
     pub(crate) fn next(&mut self) -> Option<PostBuffer>
         ensures ring { SameConsumer self.old.ring self.new.ring }
         ensures some { OnSome result (length (received self.new.ring) ≡ length (received self.old.ring) + 1) }

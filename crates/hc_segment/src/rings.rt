@@ -54,7 +54,7 @@ impl Seam {
     }
 }
 
-/// So many seams.
+/// Returns `count` seams.
 pub(crate) fn seams_of(alloc: Global, count: usize, room: u32) -> Result<Vec<Seam>, AllocError>
     ensures { IfOk result (λ seams. vec_len seams ≡ count) }
 {

@@ -78,7 +78,7 @@ impl Model for Cut {
     ghost invariant = { λ cut. (vec_len cut.segments ≡ 0) × (length cut.rows.items ≤ vec_capacity cut.segments) × All (λ row. cut.size ≤ row) cut.rows.items };
 }
 
-/// So many rows of this size.
+/// Returns `number` rows of this size.
 fn rows_of(alloc: Global, number: usize, size: usize) -> Result<Vec<SegmentMachines>, AllocError>
     ensures count { IfOk result (λ rows. length rows.items ≡ number) }
     ensures rows { IfOk result (λ rows. All (λ row. size ≤ row) rows.items) }

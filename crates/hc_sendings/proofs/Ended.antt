@@ -71,12 +71,15 @@ ended-either : (at : Table) (serial : ℕ) (frames next : List StoredFrame) → 
 ended-either at serial frames next (inl e) = ap (awaited_at at) e ∙ frames-ended at serial frames
 ended-either at serial frames next (inr e) = ap (awaited_at at) e ∙ frames-gone at serial frames
 
-pub all-ended : (last_sent : LastSent) (serial : ℕ) (frames next : List StoredFrame) (writes left : List AwaitedWrite) (forgotten : Bool) → AreEnded serial frames next
+pub all-ended : (last_sent : LastSent) (serial : ℕ) (frames next : List StoredFrame) (writes left further others : List AwaitedWrite) (forgotten : Bool) → AreEnded serial frames next
     → left ≡ filter (λ (one : AwaitedWrite). not (one.serial == serial)) writes
-    → record { frames = awaited_at (last_sent_of last_sent) next; writes = left; forgotten = forgotten } ≡ ended serial (record { frames = awaited_at (last_sent_of last_sent) frames; writes = writes; forgotten = forgotten })
-all-ended last_sent serial frames next writes left forgotten are is =
-    ap (λ (all : List AwaitedFrame). record { frames = all; writes = left; forgotten = forgotten }) (ended-either (last_sent_of last_sent) serial frames next are)
-    ∙ ap (λ (some : List AwaitedWrite). record { frames = filter (λ (frame : AwaitedFrame). not (frame.serial == serial)) (awaited_at (last_sent_of last_sent) frames); writes = some; forgotten = forgotten }) is
+    → others ≡ filter (λ (one : AwaitedWrite). not (one.serial == serial)) further
+    → record { frames = awaited_at (last_sent_of last_sent) next; writes = left; further = others; forgotten = forgotten }
+    ≡ ended serial (record { frames = awaited_at (last_sent_of last_sent) frames; writes = writes; further = further; forgotten = forgotten })
+all-ended last_sent serial frames next writes left further others forgotten are is also =
+    ap (λ (all : List AwaitedFrame). record { frames = all; writes = left; further = others; forgotten = forgotten }) (ended-either (last_sent_of last_sent) serial frames next are)
+    ∙ ap (λ (some : List AwaitedWrite). record { frames = filter (λ (frame : AwaitedFrame). not (frame.serial == serial)) (awaited_at (last_sent_of last_sent) frames); writes = some; further = others; forgotten = forgotten }) is
+    ∙ ap (λ (some : List AwaitedWrite). record { frames = filter (λ (frame : AwaitedFrame). not (frame.serial == serial)) (awaited_at (last_sent_of last_sent) frames); writes = filter (λ (one : AwaitedWrite). not (one.serial == serial)) writes; further = some; forgotten = forgotten }) also
 
 -- the frames are kept as before
 

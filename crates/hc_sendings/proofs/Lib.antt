@@ -12,6 +12,7 @@ pub mod Sent
 pub mod Ended
 pub mod Again
 pub mod Found
+pub mod InSlots
 pub mod Room
 pub mod Rows
 pub mod Walked

@@ -104,14 +104,14 @@ sent-one at frame frames below =
 abbrev Below : Frame → StoredFrame → Type 0
 Below frame stored = stored.serial < frame.serial
 
-sent-all : (frames : List Frame) (at : Table) (stored : List StoredFrame) (writes : List AwaitedWrite) (forgotten : Bool)
+sent-all : (frames : List Frame) (at : Table) (stored : List StoredFrame) (writes further : List AwaitedWrite) (forgotten : Bool)
     → AllPairs (λ a b. a.serial < b.serial) frames
     → All (λ old. All (λ next. old.serial < next.serial) frames) stored
-    → record { frames = awaited_at (λ named. last_sent_after named (at named) frames) (stored ++ map stored_frame frames); writes = writes; forgotten = forgotten }
-    ≡ all_sent (record { frames = awaited_at at stored; writes = writes; forgotten = forgotten }) frames
-sent-all [] at stored writes forgotten ascend after_it =
-    ap (λ (all : List StoredFrame). record { frames = awaited_at at all; writes = writes; forgotten = forgotten }) (append-nil stored)
-sent-all (frame ∷ frames) at stored writes forgotten ascend after_it =
+    → record { frames = awaited_at (λ named. last_sent_after named (at named) frames) (stored ++ map stored_frame frames); writes = writes; further = further; forgotten = forgotten }
+    ≡ all_sent (record { frames = awaited_at at stored; writes = writes; further = further; forgotten = forgotten }) frames
+sent-all [] at stored writes further forgotten ascend after_it =
+    ap (λ (all : List StoredFrame). record { frames = awaited_at at all; writes = writes; further = further; forgotten = forgotten }) (append-nil stored)
+sent-all (frame ∷ frames) at stored writes further forgotten ascend after_it =
     let later = AllPairs-head (λ (a b : Frame). a.serial < b.serial) frame frames ascend in
     let below : All (Below frame) stored = All-weaker (λ (old : StoredFrame). All (λ (next : Frame). old.serial < next.serial) (frame ∷ frames)) (Below frame) (λ old all. All-head (λ (next : Frame). old.serial < next.serial) frame frames all) stored after_it in
     let rest : All (λ (old : StoredFrame). All (λ (next : Frame). old.serial < next.serial) frames) stored =
@@ -119,11 +119,11 @@ sent-all (frame ∷ frames) at stored writes forgotten ascend after_it =
     let more : All (λ (old : StoredFrame). All (λ (next : Frame). old.serial < next.serial) frames) (stored ++ stored_frame frame ∷ []) =
     All-append (λ (old : StoredFrame). All (λ (next : Frame). old.serial < next.serial) frames) stored (stored_frame frame ∷ []) rest
     (All-cons (λ (old : StoredFrame). All (λ (next : Frame). old.serial < next.serial) frames) (stored_frame frame) [] later (All-nil (λ (old : StoredFrame). All (λ (next : Frame). old.serial < next.serial) frames))) in
-    ap (λ (all : List StoredFrame). record { frames = awaited_at (λ named. last_sent_after named (noted_at frame at named) frames) all; writes = writes; forgotten = forgotten })
+    ap (λ (all : List StoredFrame). record { frames = awaited_at (λ named. last_sent_after named (noted_at frame at named) frames) all; writes = writes; further = further; forgotten = forgotten })
     (sym (append_assoc stored (stored_frame frame ∷ []) (map stored_frame frames)))
-    ∙ sent-all frames (noted_at frame at) (stored ++ stored_frame frame ∷ []) writes forgotten
+    ∙ sent-all frames (noted_at frame at) (stored ++ stored_frame frame ∷ []) writes further forgotten
     (AllPairs-tail (λ (a b : Frame). a.serial < b.serial) frame frames ascend) more
-    ∙ ap (λ (now : List AwaitedFrame). all_sent (record { frames = now; writes = writes; forgotten = forgotten }) frames)
+    ∙ ap (λ (now : List AwaitedFrame). all_sent (record { frames = now; writes = writes; further = further; forgotten = forgotten }) frames)
     (sent-one at frame stored below)
 
 -- what is kept of frames that are sent, after those that were awaited before: serials ascend and datagrams have their places
@@ -232,24 +232,24 @@ joined-stored before now stored first second frames are places one after_it two 
           (All-filter stays (λ (frame : StoredFrame). All IsTaskDatagram frame.datagrams) (map stored_frame frames) (All-map (λ (frame : StoredFrame). All IsTaskDatagram frame.datagrams) stored_frame frames named));
     }
 
-pub joined-answer_given : (before now : LastSent) (stored first second : List StoredFrame) (frames : List Frame) (writes : List AwaitedWrite) (forgotten : Bool) → AreStored before stored
+pub joined-answer_given : (before now : LastSent) (stored first second : List StoredFrame) (frames : List Frame) (writes further : List AwaitedWrite) (forgotten : Bool) → AreStored before stored
     → ((d : Named) → IsTaskDatagram d → last_sent_of now d ≡ last_sent_after d (last_sent_of before d) frames)
     → IsPruned (last_sent_of before) stored first → All (After frames) first → IsPruned (last_sent_of now) first second
     → All (λ (frame : Frame). All IsTaskDatagram frame.datagrams) frames → AllPairs (λ a b. a.serial < b.serial) frames
-    → record { frames = awaited_at (last_sent_of now) (joined now second frames); writes = writes; forgotten = forgotten }
-    ≡ all_sent (record { frames = awaited_at (last_sent_of before) stored; writes = writes; forgotten = forgotten }) frames
-joined-answer_given before now stored first second frames writes forgotten are noted one after_it two named ascend =
+    → record { frames = awaited_at (last_sent_of now) (joined now second frames); writes = writes; further = further; forgotten = forgotten }
+    ≡ all_sent (record { frames = awaited_at (last_sent_of before) stored; writes = writes; further = further; forgotten = forgotten }) frames
+joined-answer_given before now stored first second frames writes further forgotten are noted one after_it two named ascend =
     let at : Table = last_sent_of now in
     let new : List StoredFrame = map stored_frame frames in
-    ap (λ (all : List AwaitedFrame). record { frames = all; writes = writes; forgotten = forgotten })
+    ap (λ (all : List AwaitedFrame). record { frames = all; writes = writes; further = further; forgotten = forgotten })
     (awaited_still-append at second (filter (stays_at at) new)
     ∙ ap (λ (all : List AwaitedFrame). all ++ awaited_at at (filter (stays_at at) new)) two.answer_given
     ∙ ap (λ (all : List AwaitedFrame). awaited_at at first ++ all) (awaited_still-stays at new)
     ∙ sym (awaited_still-append at first new)
     ∙ awaited_still-same at (λ d. last_sent_after d (last_sent_of before d) frames) noted (first ++ new)
     (all-named first frames (one.named are.named) named))
-    ∙ sent-all frames (last_sent_of before) first writes forgotten ascend after_it
-    ∙ ap (λ (all : List AwaitedFrame). all_sent (record { frames = all; writes = writes; forgotten = forgotten }) frames) one.answer_given
+    ∙ sent-all frames (last_sent_of before) first writes further forgotten ascend after_it
+    ∙ ap (λ (all : List AwaitedFrame). all_sent (record { frames = all; writes = writes; further = further; forgotten = forgotten }) frames) one.answer_given
 
 -- there is room for them: for all that come, or where those that are left are the newest of a datagram each
 pub joined-few : (now : LastSent) (first second : List StoredFrame) (frames : List Frame) (room count : ℕ)

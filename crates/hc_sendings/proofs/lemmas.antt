@@ -1,5 +1,6 @@
 -- What the crates above cite, a file a subject.
 pub mod Listed
+pub mod Inserted
 pub mod PartTexts
 pub mod Whole
 pub mod Dues
@@ -11,3 +12,4 @@ pub mod Ended
 pub mod Resent
 pub mod Sent
 pub mod Awaits
+pub mod UnderWay

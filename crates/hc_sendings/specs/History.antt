@@ -5,7 +5,8 @@ use Rattle.hc_events.specs.Points.{line_of, next_serial}
 use Rattle.hc_events.specs.Heads.{Head}
 use Rattle.hc_events.specs.Answering.{Sending, is_outdated}
 use Rattle.hc_events.specs.Awaited.{awaited}
-use Rattle.hc_sendings.specs.Waiting.{AllAreInLine, Waiting}
+use Rattle.hc_events.specs.Accepted.{carries_first}
+use Rattle.hc_sendings.specs.Waiting.{AllAreInLine, Waiting, all_writes}
 use Rattle.hc_sendings.specs.Judging.{Due, due_with}
 
 -- what is due to come back of what the record awaits with a serial
@@ -29,13 +30,16 @@ was_forgotten (Wrote blocks ∷ history) = false
 was_forgotten (Forgot station ∷ history) = true
 was_forgotten (entry ∷ history) = was_forgotten history
 
--- the same is due with each serial; the frames are of the line, and frames and writes have serials that ascend and were given; no write has a frame's
+-- the same is due with each serial; the frames are of the line, and frames and writes have serials that ascend and were given; no two have the same; and those writes carry the first owed blocks that
+-- aren't kept as further ones
 pub record KeepsAwaited (history : History) (waiting : Waiting) : Type 0 where
   pub due : (serial : ℕ) → due_with (line_of history) waiting serial ≡ due_by history serial
   pub ascend : AllPairs (λ a b. a.serial < b.serial) waiting.frames
   pub below : All (λ frame. frame.serial < next_serial history) waiting.frames
   pub is_placed : AllAreInLine (line_of history) waiting
   pub in_order : AllPairs (λ a b. a.serial < b.serial) waiting.writes
-  pub given : All (λ write. write.serial < next_serial history) waiting.writes
-  pub apart : All (λ write. All (λ frame. frame.serial ≢ write.serial) waiting.frames) waiting.writes
+  pub distinct : AllPairs (λ a b. a.serial ≢ b.serial) (all_writes waiting)
+  pub given : All (λ write. write.serial < next_serial history) (all_writes waiting)
+  pub apart : All (λ write. All (λ frame. frame.serial ≢ write.serial) waiting.frames) (all_writes waiting)
+  pub first : All (λ write. carries_first history write.serial) waiting.writes
   pub forgotten : waiting.forgotten ≡ was_forgotten history

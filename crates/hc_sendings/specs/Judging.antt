@@ -9,7 +9,7 @@ use Rattle.hc_events.specs.Arrivals.{Arrival, Part}
 use Rattle.hc_events.specs.Heads.{Head, Block, data_head}
 use Rattle.hc_events.specs.Answering.{Judged, Verdict, Good, Wrong, Stale, has_heads}
 use Rattle.hc_sendings.specs.declared.writes.AwaitedBlock.{AwaitedBlock}
-use Rattle.hc_sendings.specs.Waiting.{AwaitedFrame, AwaitedWrite, AwaitedDatagram, Waiting}
+use Rattle.hc_sendings.specs.Waiting.{AwaitedFrame, AwaitedWrite, AwaitedDatagram, Waiting, all_writes}
 
 -- what is due to come back of a datagram or a register block: what the sending said of it, and whether it wasn't sent again since
 pub record Due : Type 0 where
@@ -44,7 +44,7 @@ write_due write = map block_due write.blocks
 
 -- what is awaited with a serial: a write, or a frame
 abbrev pub found_write : ℕ → Waiting → Option AwaitedWrite
-found_write serial waiting = find (λ write. write.serial == serial) waiting.writes
+found_write serial waiting = find (λ write. write.serial == serial) (all_writes waiting)
 
 -- the blocks of the awaited write with a serial, in its order; none where no such write is awaited
 abbrev pub blocks_with : ℕ → Waiting → List AwaitedBlock

@@ -5,6 +5,7 @@ pub mod PartTexts
 pub mod Parts
 pub mod Texts
 pub mod Waiting
+pub mod Slots
 pub mod Judging
 pub mod History
 pub mod Stored

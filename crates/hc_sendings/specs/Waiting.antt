@@ -25,15 +25,20 @@ pub record AwaitedWrite : Type 0 where
   pub serial : ℕ
   pub blocks : List AwaitedBlock
 
--- the awaited frames, the oldest first; the register writes, the oldest first; and whether a slave was forgotten since the last write
+-- the awaited frames, the oldest first; the register writes that carry the first owed blocks, the oldest first; those that carry further blocks, the oldest first; and whether a slave was forgotten since the last write
 pub record Waiting : Type 0 where
   pub frames : List AwaitedFrame
   pub writes : List AwaitedWrite
+  pub further : List AwaitedWrite
   pub forgotten : Bool
 
 -- nothing is awaited: so it is at the opening, and after an accepted edit
 abbrev pub nothing : Waiting
-nothing = record { frames = []; writes = []; forgotten = false }
+nothing = record { frames = []; writes = []; further = []; forgotten = false }
+
+-- all register writes that are awaited: those of further blocks, and after them those of the first ones
+abbrev pub all_writes : Waiting → List AwaitedWrite
+all_writes waiting = waiting.further ++ waiting.writes
 
 -- a frame is sent: it is the newest one of its datagrams
 
@@ -103,14 +108,45 @@ with_written again write = record write { blocks = map (written_again again) wri
 abbrev pub is_awaited : AwaitedWrite → Bool
 is_awaited write = list_any (λ block. block.last_sent) write.blocks
 
--- the older writes that stay awaited after a write of these blocks: none where a slave was forgotten since the last write, since a write after that takes the place of all before it
-abbrev pub older_writes : List AwaitedBlock → Waiting → List AwaitedWrite
-older_writes again waiting = if waiting.forgotten then [] else filter is_awaited (map (with_written again) waiting.writes)
+-- of older writes those that stay awaited after a write of these blocks: none where a slave was forgotten since the last write, since a write after that takes the place of all before it
+abbrev pub left_after : List AwaitedBlock → Bool → List AwaitedWrite → List AwaitedWrite
+left_after again forgotten writes = if forgotten then [] else filter is_awaited (map (with_written again) writes)
 
--- what is awaited once a write of these blocks was sent with this serial
+-- so of the writes that carry the first owed blocks
+abbrev pub older_writes : List AwaitedBlock → Waiting → List AwaitedWrite
+older_writes again waiting = left_after again waiting.forgotten waiting.writes
+
+-- and of those that carry further blocks
+abbrev pub older_further : List AwaitedBlock → Waiting → List AwaitedWrite
+older_further again waiting = left_after again waiting.forgotten waiting.further
+
+-- what is awaited once a write of these blocks, the first owed ones, was sent with this serial
 abbrev pub wrote : ℕ → List AwaitedBlock → Waiting → Waiting
-wrote serial blocks waiting =
-    record waiting { writes = older_writes blocks waiting ++ record { serial = serial; blocks = blocks } ∷ []; forgotten = false }
+wrote serial blocks waiting = record waiting {
+  writes = older_writes blocks waiting ++ record { serial = serial; blocks = blocks } ∷ [];
+  further = older_further blocks waiting;
+  forgotten = false;
+}
+
+-- or a write of further ones
+abbrev pub wrote_further : ℕ → List AwaitedBlock → Waiting → Waiting
+wrote_further serial blocks waiting = record waiting {
+  writes = older_writes blocks waiting;
+  further = older_further blocks waiting ++ record { serial = serial; blocks = blocks } ∷ [];
+  forgotten = false;
+}
+
+-- a write is the newest one of the block with a station address and a number
+abbrev pub is_newest_of : ℕ → ℕ → AwaitedBlock → Bool
+is_newest_of station number block = ((block.station == station) && (block.number == number)) && block.last_sent
+
+-- a frame of writes carries the newest one of that block
+abbrev pub carries_newest : ℕ → ℕ → AwaitedWrite → Bool
+carries_newest station number write = list_any (is_newest_of station number) write.blocks
+
+-- it is awaited
+abbrev pub is_newest_awaited : ℕ → ℕ → Waiting → Bool
+is_newest_awaited station number waiting = list_any (carries_newest station number) (all_writes waiting)
 
 -- a block of a write after the slave with a station address was forgotten
 abbrev pub block_forgotten : ℕ → AwaitedBlock → AwaitedBlock
@@ -120,16 +156,21 @@ block_forgotten station block = record block { last_sent = block.last_sent && no
 abbrev pub write_forgotten : ℕ → AwaitedWrite → AwaitedWrite
 write_forgotten station write = record write { blocks = map (block_forgotten station) write.blocks }
 
+-- of writes those that stay awaited after that
+abbrev pub left_forgotten : ℕ → List AwaitedWrite → List AwaitedWrite
+left_forgotten station writes = filter is_awaited (map (write_forgotten station) writes)
+
 -- what is awaited once the slave with a station address was forgotten: no block of that slave; frames and other blocks stay
 abbrev pub forgot : ℕ → Waiting → Waiting
 forgot station waiting =
-    record waiting { writes = filter is_awaited (map (write_forgotten station) waiting.writes); forgotten = true }
+    record waiting { writes = left_forgotten station waiting.writes; further = left_forgotten station waiting.further; forgotten = true }
 
 -- what was sent with a serial was answered
 abbrev pub ended : ℕ → Waiting → Waiting
 ended serial waiting = record waiting {
   frames = filter (λ frame. not (frame.serial == serial)) waiting.frames;
   writes = filter (λ write. not (write.serial == serial)) waiting.writes;
+  further = filter (λ write. not (write.serial == serial)) waiting.further;
 }
 
 -- what the caller keeps to

@@ -5,6 +5,7 @@ ghost use Rattle.hc_events.specs.Sendings.{Named};
 ghost use Rattle.hc_sendings.specs.Stored.{IsLast, SerialsAreBelow, awaited_of, awaited_frames, frame_emptied, frames_without, stored_frame, last_sent_after, last_sent_of, frame_by};
 ghost use Rattle.hc_sendings.specs.Waiting.{IsTaskDatagram, is_still_awaited};
 
+use crate::further_writes::FurtherWrites;
 use crate::last_sent::LastSent;
 use crate::last_writes::LastWrites;
 use crate::stored::StoredFrame;
@@ -19,14 +20,14 @@ use std::marker::Model;
 /// 5.4).
 pub const FRAME_DATAGRAMS: usize = 115;
 
-/// The most register writes that are awaited: a frame of several blocks, and the write of one that was sent after it. Each
-/// later frame carries all that is awaited.
+/// The most frames of the first owed register blocks that are awaited: a frame of several blocks, and the write of one that
+/// was sent after it. Each later one carries all that is awaited of them.
 pub const AWAITED_WRITES: usize = 2;
 
 /// The frames of tasks and the register writes that are awaited. Contracts see a `Waiting`: the frames in
-/// the order in which they were sent, each datagram with whether this is its newest frame; the writes in their
-/// order, each block with whether this is its newest write; and whether a slave was forgotten since the last
-/// write. A frame that is the newest of no datagram is awaited no longer, so there are at most as many as
+/// the order in which they were sent, each datagram with whether this is its newest frame; the writes of the first owed
+/// blocks and those of further ones, each in their order, each block with whether this is its newest write; and whether a
+/// slave was forgotten since the last write. A frame that is the newest of no datagram is awaited no longer, so there are at most as many as
 /// datagrams, 128; nor is a write that is the newest of no block.
 #[derive(Debug)]
 pub struct Awaited {
@@ -34,6 +35,7 @@ pub struct Awaited {
     // in the order of their serials; some may be the newest of no datagram
     pub(crate) frames: Vec<StoredFrame>,
     pub(crate) writes: LastWrites,
+    pub(crate) further: FurtherWrites,
     pub(crate) forgotten: bool,
 }
 
@@ -43,6 +45,7 @@ impl Drop for Awaited {
             last_sent: _,
             frames: _,
             writes: _,
+            further: _,
             forgotten: _,
         } = self;
     }
@@ -56,7 +59,7 @@ impl Model for Awaited {
 
     ghost Value = { Waiting };
 
-    ghost view = { λ awaited. record { frames = awaited_frames awaited.last_sent awaited.frames.items; writes = awaited.writes; forgotten = awaited.forgotten } };
+    ghost view = { λ awaited. record { frames = awaited_frames awaited.last_sent awaited.frames.items; writes = awaited.writes; further = awaited.further; forgotten = awaited.forgotten } };
 
     ghost invariant = { λ awaited. AreStored awaited.last_sent awaited.frames.items × (SLOTS ≤ vec_capacity awaited.frames) };
 }
@@ -223,12 +226,12 @@ fn end_frame(frames: &mut Vec<StoredFrame>, serial: u64)
 }
 
 impl Awaited {
-    ghost use Rattle.std.specs.Prelude.{◌≡◌, ◌<◌, ◌≤◌, ◌*◌, All, IfOk, length, map};
+    ghost use Rattle.std.specs.Prelude.{◌≡◌, ◌==◌, ◌<◌, ◌≤◌, ◌*◌, All, IfOk, IfSome, OnErr, OnOk, length, map, option_map};
     ghost use Rattle.hc_records.specs.declared.limits.TheConstants.{MOST_DATAGRAMS, TASKS};
     ghost use Rattle.hc_events.specs.declared.sending.TheConstants.{FRAME_BLOCKS};
     ghost use Rattle.hc_sendings.specs.declared.awaited.TheConstants.{AWAITED_WRITES};
-    ghost use Rattle.hc_sendings.specs.Judging.{blocks_with};
-    ghost use Rattle.hc_sendings.specs.Waiting.{ComeAfter, IsTaskDatagram, all_sent, awaited_block, ended, forgot, nothing, older_writes, wrote};
+    ghost use Rattle.hc_sendings.specs.Judging.{blocks_with, found_write};
+    ghost use Rattle.hc_sendings.specs.Waiting.{ComeAfter, IsTaskDatagram, all_sent, awaited_block, ended, forgot, is_newest_awaited, left_after, nothing, older_writes, wrote, wrote_further};
 
     /// Nothing is awaited. It takes all the memory that it will need: `AllocError` where that was refused.
     pub fn new(alloc: Global) -> Result<Awaited, AllocError>
@@ -238,6 +241,7 @@ impl Awaited {
             last_sent: LastSent::new(alloc)?,
             frames: Vec::with_capacity(alloc, SLOTS)?,
             writes: LastWrites::new(alloc)?,
+            further: FurtherWrites::new(alloc)?,
             forgotten: false,
         })
     }
@@ -248,6 +252,7 @@ impl Awaited {
     {
         self.frames.clear();
         self.writes.clear();
+        self.further.clear();
         self.forgotten = false;
     }
 
@@ -268,7 +273,7 @@ impl Awaited {
         add_all(&mut self.frames, &self.last_sent, frames);
     }
 
-    /// The older writes that a write of these blocks replaces go, and the others stay.
+    /// Of the writes of the first owed blocks those go that a write of these blocks replaces, and the others stay.
     #[inline(always)]
     fn retire(&mut self, again: &[PlacedBlock])
         ensures { self.new ≡ record self.old { writes = older_writes (map awaited_block again.now) self.old } }
@@ -280,9 +285,9 @@ impl Awaited {
         }
     }
 
-    /// Register blocks, 74 at most, are sent in one frame, and are awaited from now on. Older writes of these blocks aren't
-    /// awaited any more, and where a slave was forgotten since the last write no older write is: one at most stays awaited,
-    /// which is the caller's condition. It takes no memory.
+    /// The first owed register blocks, 74 at most, are sent in one frame, and are awaited from now on. Older writes of these blocks aren't
+    /// awaited any more, and where a slave was forgotten since the last write no older write is: of the first owed blocks one
+    /// at most stays awaited, which is the caller's condition. It takes no memory.
     #[inline(always)]
     pub fn write(&mut self, serial: u64, blocks: &[PlacedBlock])
         requires few { length blocks.now ≤ FRAME_BLOCKS }
@@ -291,7 +296,28 @@ impl Awaited {
     {
         self.retire(blocks);
         self.writes.push(serial, blocks);
+        self.further.retire(self.forgotten, blocks);
         self.forgotten = false;
+    }
+
+    /// Further register blocks, 74 at most, are sent in one frame, and are awaited from now on, beside all older frames.
+    /// Older writes of these blocks are not awaited any more, and no older write is if a slave was forgotten since the last
+    /// write. It allocates only if more further frames are awaited than ever before, and more than two. `AllocError` if an
+    /// allocation failed: nothing changed.
+    pub fn write_further(
+        &mut self,
+        alloc: Global,
+        serial: u64,
+        blocks: &[PlacedBlock],
+    ) -> Result<(), AllocError>
+        requires few { length blocks.now ≤ FRAME_BLOCKS }
+        ensures sent { OnOk result (self.new ≡ wrote_further serial (map awaited_block blocks.now) self.old) }
+        ensures unchanged { OnErr result (self.new ≡ self.old) }
+    {
+        self.further.send(alloc, self.forgotten, serial, blocks)?;
+        self.retire(blocks);
+        self.forgotten = false;
+        Ok(())
     }
 
     /// The slave with a station address was forgotten: no write of its blocks is awaited any more. Frames of tasks and
@@ -300,6 +326,7 @@ impl Awaited {
         ensures { self.new ≡ forgot station self.old }
     {
         self.writes.forget(station);
+        self.further.forget(station);
         self.forgotten = true;
     }
 
@@ -310,6 +337,27 @@ impl Awaited {
     {
         end_frame(&mut self.frames, serial);
         self.writes.end(serial);
+        self.further.end(serial);
+    }
+
+    /// The blocks of the awaited write with a serial, in its order: 74 at most.
+    #[inline(always)]
+    pub(crate) fn find_write(&self, serial: u64) -> Option<&[AwaitedBlock]>
+        ensures blocks { option_map (λ blocks. blocks.now) result ≡ option_map (λ write. write.blocks) (found_write serial self.now) }
+        ensures few { IfSome result (λ blocks. length blocks.now ≤ FRAME_BLOCKS) }
+    {
+        match self.further.find(serial) {
+            Some(blocks) => Some(blocks),
+            None => self.writes.find(serial),
+        }
+    }
+
+    /// Whether the newest write of the block with a station address and a number is awaited. It takes the time of all blocks
+    /// that are awaited.
+    pub fn is_newest_awaited(&self, station: u16, number: u8) -> bool
+        ensures { result ≡ is_newest_awaited station number self.now }
+    {
+        self.further.carries(station, number) || self.writes.carries(station, number)
     }
 
     /// The blocks of the awaited write with a serial, in its order: 74 at most; none where no such write is awaited.
@@ -317,7 +365,7 @@ impl Awaited {
         ensures blocks { result.now ≡ blocks_with serial self.now }
         ensures few { length result.now ≤ FRAME_BLOCKS }
     {
-        match self.writes.find(serial) {
+        match self.find_write(serial) {
             Some(blocks) => blocks,
             None => &[],
         }

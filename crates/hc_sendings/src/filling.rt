@@ -80,7 +80,7 @@ fn write_own<D: SentData>(out: &mut [u8], serial: u64, datagrams: &[Named], task
     }
 }
 
-/// So many bytes where the first of these datagrams is of a task, else none.
+/// Returns a number of bytes if the first of these datagrams is of a task, else 0.
 fn first_share(datagrams: &[Named], task: u8, bytes: usize) -> usize
     ensures bytes { result ≡ share task bytes (slice_get datagrams.now 0) }
     ensures most { result ≤ bytes }
@@ -88,7 +88,7 @@ fn first_share(datagrams: &[Named], task: u8, bytes: usize) -> usize
     share(task, bytes, datagrams.first().copied())
 }
 
-/// So many bytes where the last of these datagrams is of a task, else none.
+/// Returns a number of bytes if the last of these datagrams is of a task, else 0.
 fn last_share(datagrams: &[Named], task: u8, bytes: usize) -> usize
     ensures bytes { result ≡ share task bytes (slice_get datagrams.now (length datagrams.now - 1)) }
     ensures most { result ≤ bytes }

@@ -240,7 +240,7 @@ impl Awaited {
         ensures capacity { vec_capacity outcomes.old ≤ vec_capacity outcomes.new }
         ensures none { OnErr result (outcomes.new.items ≡ []) }
     {
-        if let Some(blocks) = self.writes.find(arrival.serial()) {
+        if let Some(blocks) = self.find_write(arrival.serial()) {
             return judge_write(blocks, arrival, outcomes);
         }
         let found = find_frame(&self.last_sent, self.frames.as_slice(), arrival.serial());

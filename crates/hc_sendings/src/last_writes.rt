@@ -1,5 +1,5 @@
-//! The frames of register writes that are awaited: the last one that was sent, and the one before it where that can still be
-//! answered. `Awaited` keeps them.
+//! The frames of the first owed register blocks that are awaited: the last one that was sent, and the one before it if that can
+//! still be answered. `Awaited` keeps them.
 use crate::write_frames::PlacedBlock;
 use crate::writes::{AwaitedBlock, Write};
 use std::alloc::{AllocError, Global};
@@ -23,10 +23,11 @@ impl Model for LastWrites {
 }
 
 impl LastWrites {
+    ghost use Rattle.std.specs.List.{list_any};
     ghost use Rattle.std.specs.Prelude.{◌≡◌, ◌==◌, ◌<◌, ◌≤◌, [], ◌∷◌, ◌++◌, IfOk, IfSome, filter, find, length, map, not, option_map};
     ghost use Rattle.hc_events.specs.declared.sending.TheConstants.{FRAME_BLOCKS};
     ghost use Rattle.hc_sendings.specs.declared.awaited.TheConstants.{AWAITED_WRITES};
-    ghost use Rattle.hc_sendings.specs.Waiting.{awaited_block, is_awaited, with_written, write_forgotten};
+    ghost use Rattle.hc_sendings.specs.Waiting.{awaited_block, carries_newest, is_awaited, left_forgotten, with_written};
 
     /// None is awaited. It takes all the memory that it will need: `AllocError` where that was refused.
     pub(crate) fn new(alloc: Global) -> Result<LastWrites, AllocError>
@@ -72,7 +73,7 @@ impl LastWrites {
     /// The slave with a station address is forgotten: of its blocks no write is the newest, and those writes go that are the
     /// newest of no other block.
     pub(crate) fn forget(&mut self, station: u16)
-        ensures { self.new ≡ filter is_awaited (map (write_forgotten station) self.old) }
+        ensures { self.new ≡ left_forgotten station self.old }
     {
         self.older.forget(station);
         self.last.forget(station);
@@ -84,6 +85,13 @@ impl LastWrites {
     {
         self.older.end(serial);
         self.last.end(serial);
+    }
+
+    /// Whether one of them carries the newest write of the block with a station address and a number.
+    pub(crate) fn carries(&self, station: u16, number: u8) -> bool
+        ensures { result ≡ list_any (carries_newest station number) self.now }
+    {
+        self.older.carries(station, number) || self.last.carries(station, number)
     }
 
     /// The blocks of the write with a serial, in its order: 74 at most.

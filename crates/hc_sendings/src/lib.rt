@@ -5,6 +5,7 @@
 pub mod awaited;
 pub mod filling;
 mod framing;
+mod further_writes;
 mod judging;
 mod last_sent;
 mod last_writes;
@@ -14,3 +15,5 @@ mod stored;
 pub mod write_frames;
 pub mod writes;
 pub mod writing;
+
+pub use awaited::Awaited;

@@ -51,7 +51,7 @@ fn own_share(plan: &Plan, datagrams: &[Named], task: u8) -> usize
     bytes
 }
 
-/// So many bytes where there is the datagram and it is of the task, else none.
+/// Returns a number of bytes if there is the datagram and it is of the task, else 0.
 pub(crate) fn share(task: u8, bytes: usize, datagram: Option<Named>) -> usize
     ensures bytes { result ≡ share task bytes datagram }
     ensures most { result ≤ bytes }

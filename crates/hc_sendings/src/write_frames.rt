@@ -168,9 +168,9 @@ impl WriteFrame {
         bytes.max(usize::from(LEAST_FRAME))
     }
 
-    /// Writes the frame into a slice of its exact size.
+    /// Writes the frame into a slice of its exact size. `serial` is below 2^40.
     #[inline(always)]
-    fn write(&self, out: &mut [u8], serial: u64)
+    pub fn write(&self, out: &mut [u8], serial: u64)
         requires exact { length out.old ≡ frame_bytes self.now.bytes }
         requires serial { serial < 2 ^ 40 }
         ensures { out.new ≡ placed_text serial self.now.blocks }

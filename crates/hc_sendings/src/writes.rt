@@ -1,7 +1,7 @@
 //! Register blocks as they are kept while their write is awaited, and a frame of them.
 ghost use Rattle.std.specs.Prelude.{◌≡◌, ◌≤◌, length, map, vec_capacity};
 ghost use Rattle.std.specs.List.{list_any};
-ghost use Rattle.hc_sendings.specs.Waiting.{awaited_block, block_forgotten, is_same, written_again};
+ghost use Rattle.hc_sendings.specs.Waiting.{awaited_block, block_forgotten, is_newest_of, is_same, written_again};
 
 use crate::write_frames::PlacedBlock;
 use hc_events::sending::FRAME_BLOCKS;
@@ -86,6 +86,22 @@ pub(crate) fn any_last_sent(blocks: &[AwaitedBlock]) -> bool
     blocks.iter().any(|block| block.last_sent)
 }
 
+/// Whether this is the newest write of the block with a station address and a number.
+fn is_newest_of(block: &AwaitedBlock, station: u16, number: u8) -> bool
+    ensures { result ≡ is_newest_of station number block.now }
+{
+    block.station == station && block.number == number && block.last_sent
+}
+
+/// Whether the newest write of the block with a station address and a number is among these.
+fn any_newest_of(blocks: &[AwaitedBlock], station: u16, number: u8) -> bool
+    ensures { result ≡ list_any (is_newest_of station number) blocks.now }
+{
+    blocks
+        .iter()
+        .any(|block| is_newest_of(block, station, number))
+}
+
 /// Puts these blocks in place of those that are in a list with room for them.
 fn put_blocks(blocks: &mut Vec<AwaitedBlock>, placed: &[PlacedBlock])
     requires { length placed.now ≤ vec_capacity blocks.old }
@@ -126,9 +142,10 @@ impl Model for Write {
 }
 
 impl Write {
+    ghost use Rattle.std.specs.List.{list_any};
     ghost use Rattle.std.specs.Prelude.{◌≡◌, ◌==◌, ◌≤◌, [], ◌∷◌, IfOk, IfSome, filter, find, length, map, not, option_map};
     ghost use Rattle.hc_events.specs.declared.sending.TheConstants.{FRAME_BLOCKS};
-    ghost use Rattle.hc_sendings.specs.Waiting.{awaited_block, is_awaited, with_written, write_forgotten};
+    ghost use Rattle.hc_sendings.specs.Waiting.{awaited_block, carries_newest, is_awaited, left_after, left_forgotten, with_written};
 
     /// None is awaited. `AllocError` where its memory was refused.
     pub(crate) fn none(alloc: Global) -> Result<Write, AllocError>
@@ -177,6 +194,13 @@ impl Write {
         }
     }
 
+    /// Whether it carries the newest write of the block with a station address and a number.
+    pub(crate) fn carries(&self, station: u16, number: u8) -> bool
+        ensures { result ≡ list_any (carries_newest station number) self.now }
+    {
+        self.is_awaited && any_newest_of(self.blocks.as_slice(), station, number)
+    }
+
     /// A write of these blocks is sent.
     #[inline(always)]
     pub(crate) fn write_again(&mut self, again: &[PlacedBlock])
@@ -188,9 +212,21 @@ impl Write {
         }
     }
 
+    /// A later frame with these blocks is sent: it goes if it is the newest write of no other block, or if a slave was
+    /// forgotten since the last write.
+    pub(crate) fn retire(&mut self, is_over: bool, again: &[PlacedBlock])
+        ensures { self.new ≡ left_after (map awaited_block again.now) is_over self.old }
+    {
+        if is_over {
+            self.clear();
+        } else {
+            self.write_again(again);
+        }
+    }
+
     /// The slave with a station address is forgotten.
     pub(crate) fn forget(&mut self, station: u16)
-        ensures { self.new ≡ filter is_awaited (map (write_forgotten station) self.old) }
+        ensures { self.new ≡ left_forgotten station self.old }
     {
         if self.is_awaited {
             forget_blocks(&mut self.blocks, station);

@@ -1,4 +1,4 @@
--- The commands: the words that spell each.
+-- The commands, and the words that each consists of.
 use Rattle.std.specs.Prelude.{ℕ, if◌then◌else◌, List, Option, option_map, codes}
 use Rattle.std.specs.Str.{bytes_eq}
 use Rattle.hc_text.specs.declared.commands.Command.{Command}
@@ -9,7 +9,7 @@ use Rattle.hc_text.specs.PostWords.{post_in}
 use Rattle.hc_text.specs.ShortCommands.{alone_in, arrive_in, place_command, read_in, regs_in, show_in, view_in}
 use Rattle.hc_text.specs.TaskWords.{cycle_in, send_in}
 
--- the command that a name and its arguments spell: those of the simulated line, and the edits
+-- the command with a name and arguments; here those of the simulated line, and the edits
 abbrev pub line_command_in : List ℕ → List (List ℕ) → Option Command
 line_command_in name arguments =
     if bytes_eq name (codes "scan") then alone_in command.Scan arguments
@@ -20,7 +20,7 @@ line_command_in name arguments =
     else (if bytes_eq name (codes "peek") then peek_in arguments
     else option_map command.Edit (edit_in name arguments))))))
 
--- those of tasks
+-- the command with a name and arguments; here those of tasks
 abbrev pub task_command_in : List ℕ → List (List ℕ) → Option Command
 task_command_in name arguments =
     if bytes_eq name (codes "post") then post_in arguments
@@ -28,7 +28,7 @@ task_command_in name arguments =
     else (if bytes_eq name (codes "view") then view_in arguments
     else line_command_in name arguments))
 
--- those that send, take in what arrives, and read
+-- the command with a name and arguments; here those that send, take in arriving frames, and read
 abbrev pub event_in : List ℕ → List (List ℕ) → Option Command
 event_in name arguments =
     if bytes_eq name (codes "send") then send_in arguments
@@ -37,7 +37,7 @@ event_in name arguments =
     else (if bytes_eq name (codes "read") then read_in arguments
     else task_command_in name arguments)))
 
--- and those that only look
+-- the command with a name and arguments; here those that only look
 abbrev pub command_in : List ℕ → List (List ℕ) → Option Command
 command_in name arguments =
     if bytes_eq name (codes "layout") then alone_in command.Layout arguments

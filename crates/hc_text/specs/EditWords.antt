@@ -29,7 +29,7 @@ move_in (station ∷ area ∷ task ∷ []) =
     (number_in 65535 station)
 move_in (station ∷ area ∷ task ∷ other ∷ words) = None
 
--- the edit that a name and its arguments spell
+-- the edit with a name and arguments
 abbrev pub edit_in : List ℕ → List (List ℕ) → Option Edit
 edit_in name arguments =
     if bytes_eq name (codes "connect") then option_map Connect (alias_in arguments)

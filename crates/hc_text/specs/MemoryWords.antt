@@ -21,7 +21,7 @@ poking_in (station ∷ address ∷ bytes ∷ []) =
     (number_in 65535 station)
 poking_in (station ∷ address ∷ bytes ∷ other ∷ words) = None
 
--- the command that the arguments of a `poke` spell
+-- the command with the arguments of a `poke`
 abbrev pub poke_in : List (List ℕ) → Option Command
 poke_in arguments = option_map command.Poke (poking_in arguments)
 
@@ -29,7 +29,7 @@ poke_in arguments = option_map command.Poke (poking_in arguments)
 abbrev pub peek_within : Peeking → Option Peeking
 peek_within p = if nat_le 1 p.count && nat_le p.count MAX_DATA && nat_le (p.at + p.count) MEMORY_BYTES then Some p else None
 
--- `peek` has a station address, an address and how many bytes
+-- `peek` has a station address, an address and a number of bytes
 abbrev pub peeking_in : List (List ℕ) → Option Peeking
 peeking_in [] = None
 peeking_in (station ∷ []) = None
@@ -39,6 +39,6 @@ peeking_in (station ∷ address ∷ count ∷ []) =
     (number_in 65535 station)
 peeking_in (station ∷ address ∷ count ∷ other ∷ words) = None
 
--- the command that the arguments of a `peek` spell
+-- the command with the arguments of a `peek`
 abbrev pub peek_in : List (List ℕ) → Option Command
 peek_in arguments = option_map command.Peek (peeking_in arguments)

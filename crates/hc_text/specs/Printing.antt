@@ -1,4 +1,4 @@
--- How numbers and bytes are printed.
+-- Printed numbers and bytes.
 use Rattle.std.specs.Prelude.{ℕ, ◌/◌, ◌%◌, false, List, [], ◌∷◌, ◌++◌, codes}
 use Rattle.std.specs.List.{flat_map}
 use Rattle.std.specs.Fmt.{digit_glyph}
@@ -28,6 +28,6 @@ hex_bytes bytes = flat_map hex_byte bytes
 abbrev pub spaced_byte : ℕ → List ℕ
 spaced_byte b = codes " " ++ hex_byte b
 
--- bytes as they are printed, a space before each
+-- printed bytes, a space before each
 abbrev pub spaced_bytes : List ℕ → List ℕ
 spaced_bytes bytes = flat_map spaced_byte bytes

@@ -1,5 +1,5 @@
-//! The commands: how each is spelled. An input's line is cut into words; the first word is a command's name, and the others
-//! are its arguments. Who carries commands out calls `command_in` and needs to know no spelling.
+//! The commands. A line of an input is cut into words: the first is a command's name, and the others are its arguments. A
+//! caller that carries commands out calls `command_in`, and needs no knowledge of how they are written.
 ghost use Rattle.std.specs.Prelude.{◌≡◌, IfOk, map};
 ghost use Rattle.hc_text.specs.Commands.{command_in, event_in, line_command_in, task_command_in};
 
@@ -38,7 +38,7 @@ pub enum Command {
         /// The datagram's number in the task.
         datagram: u8,
     },
-    /// `place V`: where a variable is placed.
+    /// `place V`: the place of a variable.
     Place {
         /// Its number; 0 is no variable's.
         variable: u32,
@@ -58,9 +58,9 @@ pub enum Command {
     },
     /// `post T V=X ..`: a task posts values for its output variables.
     Post(Posting),
-    /// `take`: what tasks posted goes to the core.
+    /// `take`: the posts of tasks go to the core.
     Take,
-    /// `view T V`: what a task views of a variable.
+    /// `view T V`: a task's view of a variable.
     View {
         /// The task; over 7 the command is refused.
         task: u8,
@@ -81,9 +81,8 @@ pub enum Command {
     Peek(Peek),
 }
 
-/// The command that a name and its arguments spell; none where the name is unknown, the number of
-/// arguments is another, a word is malformed or a number too large for its type, or a task is there twice.
-/// `AllocError` where a growth was refused.
+/// Returns the command with a name and arguments. `None` if the name is unknown, the number of arguments is wrong, a word is
+/// malformed, a number is too large for its type, or a task is named twice. `AllocError` if an allocation fails.
 pub fn command_in(
     alloc: Global,
     name: &[u8],
@@ -104,7 +103,7 @@ pub fn command_in(
     }
 }
 
-/// The same of the commands that send, take in what arrives, or read, and of those after them.
+/// Returns the command with a name and arguments, among those that send, take in arriving frames or read, and those after them.
 fn event_in(alloc: Global, name: &[u8], arguments: &[&[u8]]) -> Result<Option<Command>, AllocError>
     ensures { IfOk result (λ command. command ≡ event_in name.now (map (λ word. word.now) arguments.now)) }
 {
@@ -121,7 +120,7 @@ fn event_in(alloc: Global, name: &[u8], arguments: &[&[u8]]) -> Result<Option<Co
     }
 }
 
-/// The same of the commands of tasks, and of those after them.
+/// Returns the command with a name and arguments, among those of tasks, and those after them.
 fn task_command_in(
     alloc: Global,
     name: &[u8],
@@ -140,7 +139,7 @@ fn task_command_in(
     }
 }
 
-/// The same of the commands of the simulated line, and of the edits.
+/// Returns the command with a name and arguments, among those of the simulated line, and the edits.
 fn line_command_in(
     alloc: Global,
     name: &[u8],

@@ -1,4 +1,4 @@
-//! Reading all of an input, within a limit on its bytes and on the turns of reading.
+//! Reading of a whole input, within a limit on its bytes and on the turns of reading.
 ghost use Rattle.std.specs.Prelude.{◌≡◌, ◌≤◌, ◌<◌, IfErr, IfOk, IfSome, length, vec_len};
 ghost use Rattle.hc_text.specs.declared.input.Unread.TheVariants.{TooLong};
 
@@ -12,10 +12,10 @@ pub const MOST_INPUT: usize = 4_194_304;
 /// The most turns of reading: one for each byte, and one that finds the end.
 const MOST_TURNS: usize = MOST_INPUT + 1;
 
-/// The bytes that one turn reads at most.
+/// The most bytes that one turn reads.
 const CHUNK: usize = 4096;
 
-/// Why an input was not read.
+/// The reason for which an input was not read.
 #[derive(Clone, Copy, Debug, PartialEq, Eq, Error)]
 pub enum Unread {
     /// It has more bytes than `MOST_INPUT`.
@@ -24,7 +24,7 @@ pub enum Unread {
     /// The reader failed for another cause than an interruption, or its end was not found within the turns.
     #[error("the input cannot be read")]
     Failed,
-    /// A growth was refused.
+    /// An allocation failed.
     #[error("out of memory")]
     Memory,
 }
@@ -40,11 +40,13 @@ impl From<AllocError> for Unread {
     }
 }
 
-/// All that a reader has left, at most `MOST_INPUT` bytes. It takes at most `MOST_INPUT` + 1 turns, whatever
-/// the reader does; an interrupted turn is taken again and counts as one. `Unread::TooLong` where more bytes
-/// came, `Unread::Failed` where a read failed or the turns ended before the input did, and
-/// `Unread::Memory` where a growth was refused. After a refusal the reader is after what was read of
-/// it, which is lost.
+/// Reads all that a reader has left, at most `MOST_INPUT` bytes. It makes at most `MOST_INPUT` + 1 turns, whatever the reader
+/// does; an interrupted turn is repeated and counts as one. Fails with one of these; then the reader stands after the bytes
+/// that were read of it, which are lost:
+///
+/// - `Unread::TooLong`: the input is longer.
+/// - `Unread::Failed`: a read failed, or the turns ended before the input did.
+/// - `Unread::Memory`: an allocation failed.
 pub fn read_all<R: Read>(alloc: Global, input: &mut R) -> Result<Vec<u8>, Unread>
     ensures bytes { IfOk result (λ bytes. IfSome (R.remaining input.old) (λ all. bytes.items ≡ all)) }
     ensures within { IfOk result (λ bytes. vec_len bytes ≤ MOST_INPUT) }

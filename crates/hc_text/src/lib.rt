@@ -1,6 +1,6 @@
-//! Text in and out: an input is read, cut into lines and words, and its words are taken for numbers; numbers and bytes are
-//! printed, and a text is written to its end. `commands` knows how each command of one line is spelled; nothing
-//! else here knows an EtherCAT line.
+//! Text in and out. An input is read and cut into lines and words, and words are read as numbers; numbers and bytes are
+//! printed, and a text is written to its end. `commands` defines how each command of one line is written; nothing else here
+//! concerns an EtherCAT line.
 #![tactic(auto)]
 
 pub mod commands;
@@ -11,3 +11,7 @@ pub mod output;
 pub mod printing;
 pub mod room;
 pub mod words;
+
+pub use commands::{Command, command_in};
+pub use input::{Unread, read_all};
+pub use output::{WriteFailed, write_text};

@@ -1,4 +1,4 @@
-//! The lines of an input: where its project text ends, and its command lines.
+//! The lines of an input: the end of its project text, and its command lines.
 ghost use Rattle.std.specs.Prelude.{◌≡◌, ◌≤◌, ◌<◌, ◌+◌, ◌==◌, [], ◌∷◌, length, option_map, IfNone, IfSome};
 ghost use Rattle.std.specs.List.{position};
 ghost use Rattle.std.specs.Option.{option_copied};
@@ -10,14 +10,14 @@ ghost use Rattle.hc_text.specs.declared.input.TheConstants.{MOST_INPUT};
 /// The line that ends the project text.
 const MARK: &[u8] = b"%%";
 
-/// The place of the first byte with this value; none if there is none.
+/// Returns the index of the first byte with this value, or `None` if there is none.
 fn find_byte(text: &[u8], byte: u8) -> Option<usize>
     ensures { result ≡ position (λ b. b == byte) text.now }
 {
     text.iter().position(|b| *b == byte)
 }
 
-/// What is before the first such byte, and what follows it; none where there is no such byte.
+/// Returns the bytes before the first such byte, and those after it. `None` if there is no such byte.
 pub fn split_at_byte(text: &[u8], byte: u8) -> (&[u8], Option<&[u8]>)
     ensures parts { parts_at byte text.now ≡ result.0.now ∷ parts_after byte (option_copied result.1) }
     ensures whole { part_joined byte result.0.now (option_copied result.1) ≡ text.now }
@@ -29,7 +29,7 @@ pub fn split_at_byte(text: &[u8], byte: u8) -> (&[u8], Option<&[u8]>)
     }
 }
 
-/// The part without a carriage return at its end, if it has one.
+/// Returns the part without a carriage return at its end, if it has one.
 fn strip_carriage_return(part: &[u8]) -> &[u8]
     ensures { result.now ≡ strip_carriage_return part.now }
 {
@@ -40,7 +40,7 @@ fn strip_carriage_return(part: &[u8]) -> &[u8]
     }
 }
 
-/// The text of a line, from its part and what follows the part's line feed.
+/// Returns the text of a line, from its part and the bytes after the part's line feed.
 #[tactic(auto, using(crate::proofs::Parts::text_of_some))]
 fn text_of<'a>(part: &'a [u8], rest: Option<&[u8]>) -> &'a [u8]
     ensures { result.now ≡ text_of_lines part.now (parts_after 10 (option_copied rest.entry)) }
@@ -51,7 +51,7 @@ fn text_of<'a>(part: &'a [u8], rest: Option<&[u8]>) -> &'a [u8]
     }
 }
 
-/// The text of the first line, and what follows the line; none after the last line.
+/// Returns the text of the first line, and the bytes after the line. `None` after the last line.
 pub fn split_line(input: &[u8]) -> (&[u8], Option<&[u8]>)
     ensures line { CutsLine input.now result.0.now (option_copied result.1) }
     ensures shorter { left_in (option_copied result.1) ≤ length input.now }
@@ -63,15 +63,15 @@ pub fn split_line(input: &[u8]) -> (&[u8], Option<&[u8]>)
 /// Lines cut at the mark.
 #[derive(Debug, Drop)]
 pub struct Sections<'a> {
-    /// The project text: the bytes before the mark, as they are; all where there is no mark.
+    /// The project text: the bytes before the mark, unchanged; all bytes if there is no mark.
     pub project: &'a [u8],
-    /// The lines after the mark; none where nothing follows it.
+    /// The lines after the mark; `None` if nothing follows it.
     pub commands: Option<&'a [u8]>,
     /// The number of the first of them.
     pub first: u32,
 }
 
-/// Cuts lines, from a number on, at the first line `%%`; none where no line is that.
+/// Cuts lines, from a line number on, at the first line `%%`. `None` if no line is that.
 pub fn split_at_mark(lines: Option<&[u8]>, number: u32) -> Option<Sections<'_>>
     requires { number + left_in (option_copied lines) ≤ MOST_INPUT + 2 }
     ensures project { option_map (λ sections. sections.project.now) result ≡ closed_text (lines_after number (option_copied lines.entry)) }

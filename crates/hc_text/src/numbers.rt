@@ -1,12 +1,11 @@
-//! Numbers as commands spell them: decimal digits, or `0x` and hexadecimal digits of either case; and bytes,
-//! two hexadecimal digits each.
+//! Numbers in commands: decimal digits, or `0x` and hexadecimal digits of either case; and bytes, two hexadecimal digits each.
 ghost use Rattle.std.specs.Prelude.{◌≡◌, ◌+◌, ◌*◌, ◌≤◌, nat_le, if◌then◌else◌, IfOk, option_map};
 ghost use Rattle.hc_text.specs.Numbers.{bytes_in, digit_of, digits_number, number_in};
 
 use hex::FromHexError;
 use std::alloc::{AllocError, Global};
 
-/// What a digit of either case stands for, and 16 where a byte is none.
+/// Returns the value of a digit of either case, and 16 for any other byte.
 fn digit_of(byte: u8) -> u8
     ensures { result ≡ digit_of byte }
 {
@@ -18,7 +17,7 @@ fn digit_of(byte: u8) -> u8
     }
 }
 
-/// A number with one more digit after it, where it is at most `most`.
+/// Returns a number with one more digit after it, if it is at most `most`.
 fn with_digit(number: u64, base: u64, digit: u64, most: u64) -> Option<u64>
     ensures { result ≡ (if nat_le (number * base + digit) most then Some (number * base + digit) else None) }
 {
@@ -26,7 +25,7 @@ fn with_digit(number: u64, base: u64, digit: u64, most: u64) -> Option<u64>
     if number <= most { Some(number) } else { None }
 }
 
-/// The number that digits of a base, at least one, spell, where it is at most `most`.
+/// Returns the number of some digits of a base, at least one, if it is at most `most`.
 fn digits_number(digits: &[u8], base: u64, most: u64) -> Option<u64>
     requires low { 2 ≤ base }
     requires high { base ≤ 16 }
@@ -49,8 +48,7 @@ fn digits_number(digits: &[u8], base: u64, most: u64) -> Option<u64>
     Some(number)
 }
 
-/// The number of a word, where it is at most `most`; none where the word spells no number or a larger
-/// one.
+/// Returns the number in a word, or `None` if the word is no number or a larger one than `most`.
 pub fn number_in(word: &[u8], most: u64) -> Option<u64>
     ensures { result ≡ number_in most word.now }
 {
@@ -60,7 +58,7 @@ pub fn number_in(word: &[u8], most: u64) -> Option<u64>
     }
 }
 
-/// The number of a word, 0 to 255; none where the word spells no number or a larger one.
+/// Returns the number in a word, 0 to 255, or `None` if the word is no number or a larger one.
 pub fn byte_in(word: &[u8]) -> Option<u8>
     ensures { result ≡ number_in 255 word.now }
 {
@@ -70,7 +68,7 @@ pub fn byte_in(word: &[u8]) -> Option<u8>
     }
 }
 
-/// The number of a word, 0 to 65,535; none where the word spells no number or a larger one.
+/// Returns the number in a word, 0 to 65,535, or `None` if the word is no number or a larger one.
 pub fn double_byte_in(word: &[u8]) -> Option<u16>
     ensures { result ≡ number_in 65535 word.now }
 {
@@ -80,7 +78,7 @@ pub fn double_byte_in(word: &[u8]) -> Option<u16>
     }
 }
 
-/// The number of a word, 0 to 4,294,967,295; none where the word spells no number or a larger one.
+/// Returns the number in a word, 0 to 4,294,967,295, or `None` if the word is no number or a larger one.
 pub fn quadruple_byte_in(word: &[u8]) -> Option<u32>
     ensures { result ≡ number_in 4294967295 word.now }
 {
@@ -90,8 +88,8 @@ pub fn quadruple_byte_in(word: &[u8]) -> Option<u32>
     }
 }
 
-/// The bytes that a word spells, two hexadecimal digits of either case for each, at least one byte; none
-/// where it has another character, or an odd number of them. `AllocError` where a growth was refused.
+/// Returns the bytes in a word, two hexadecimal digits of either case each, at least one byte. `None` if the word has another
+/// character, or an odd number of them. `AllocError` if an allocation fails.
 pub fn bytes_in(alloc: Global, word: &[u8]) -> Result<Option<Vec<u8>>, AllocError>
     ensures { IfOk result (λ found. option_map (λ bytes. bytes.items) found ≡ bytes_in word.now) }
 {

@@ -1,12 +1,12 @@
-//! Numbers and bytes as they are printed. Each function adds to a text; where a growth is refused, the
-//! text has what it had, and maybe a front of what was to be added.
+//! Printed numbers and bytes. Each function appends to a text. If an allocation fails, the text has what it had, and may have a
+//! prefix of what was to be appended.
 ghost use Rattle.std.specs.Prelude.{◌≡◌, ◌++◌, OnOk, string_bytes};
 ghost use Rattle.hc_text.specs.Printing.{hex_address, hex_byte, hex_bytes, hex_register, spaced_byte, spaced_bytes};
 
 use std::alloc::AllocError;
 
-/// Adds a byte as two lower-case hexadecimal digits. `AllocError` where a growth was refused; `out` may
-/// then have a front of them.
+/// Appends a byte as two lower-case hexadecimal digits. `AllocError` if an allocation fails; then `out` may have a prefix of
+/// them.
 #[tactic(auto, using(std::proofs::lemmas::Fmt::hex_byte))]
 pub fn push_byte(byte: u8, out: &mut String) -> Result<(), AllocError>
     ensures { OnOk result (string_bytes out.new ≡ string_bytes out.old ++ hex_byte byte) }
@@ -14,8 +14,8 @@ pub fn push_byte(byte: u8, out: &mut String) -> Result<(), AllocError>
     write!(out, "{byte:02x}")
 }
 
-/// Adds a register, or an address in a slave's memory, as `0x` and four digits. `AllocError` where a
-/// growth was refused; `out` may then have a front of them.
+/// Appends a register, or an address in a slave's memory, as `0x` and four digits. `AllocError` if an allocation fails; then
+/// `out` may have a prefix of them.
 #[tactic(auto, unfolding(crate::specs::Printing::hex_register))]
 pub fn push_register(register: u16, out: &mut String) -> Result<(), AllocError>
     ensures { OnOk result (string_bytes out.new ≡ string_bytes out.old ++ hex_register register) }
@@ -25,8 +25,8 @@ pub fn push_register(register: u16, out: &mut String) -> Result<(), AllocError>
     push_byte((register % 256) as u8, out)
 }
 
-/// Adds a logical address as `0x` and eight digits. `AllocError` where a growth was refused; `out` may
-/// then have a front of them.
+/// Appends a logical address as `0x` and eight digits. `AllocError` if an allocation fails; then `out` may have a prefix of
+/// them.
 #[tactic(auto, unfolding(crate::specs::Printing::hex_address))]
 pub fn push_address(address: u32, out: &mut String) -> Result<(), AllocError>
     ensures { OnOk result (string_bytes out.new ≡ string_bytes out.old ++ hex_address address) }
@@ -38,8 +38,7 @@ pub fn push_address(address: u32, out: &mut String) -> Result<(), AllocError>
     push_byte((address % 256) as u8, out)
 }
 
-/// Adds the bytes of a frame, without spaces. `AllocError` where a growth was refused; `out` may then
-/// have a front of them.
+/// Appends the bytes of a frame, without spaces. `AllocError` if an allocation fails; then `out` may have a prefix of them.
 pub fn push_bytes(bytes: &[u8], out: &mut String) -> Result<(), AllocError>
     ensures { OnOk result (string_bytes out.new ≡ string_bytes out.old ++ hex_bytes bytes.now) }
 {
@@ -49,7 +48,7 @@ pub fn push_bytes(bytes: &[u8], out: &mut String) -> Result<(), AllocError>
     Ok(())
 }
 
-/// Adds a byte of a register block, after a space.
+/// Appends a byte of a register block, after a space.
 fn push_spaced_byte(byte: u8, out: &mut String) -> Result<(), AllocError>
     ensures { OnOk result (string_bytes out.new ≡ string_bytes out.old ++ spaced_byte byte) }
 {
@@ -57,8 +56,8 @@ fn push_spaced_byte(byte: u8, out: &mut String) -> Result<(), AllocError>
     push_byte(byte, out)
 }
 
-/// Adds the bytes of a register block, each after a space. `AllocError` where a growth was refused;
-/// `out` may then have a front of them.
+/// Appends the bytes of a register block, each after a space. `AllocError` if an allocation fails; then `out` may have a prefix
+/// of them.
 pub fn push_spaced_bytes(bytes: &[u8], out: &mut String) -> Result<(), AllocError>
     ensures { OnOk result (string_bytes out.new ≡ string_bytes out.old ++ spaced_bytes bytes.now) }
 {

@@ -1,5 +1,5 @@
-//! Adding to room that a text has, for which no growth is needed: a text whose room was taken before
-//! something is changed is finished after the change.
+//! Appending within a text's capacity, without an allocation: a text whose capacity was reserved before a change is completed
+//! after it.
 ghost use Rattle.std.specs.Prelude.{◌≡◌, ◌≤◌, ◌<◌, ◌+◌, ◌*◌, false, [], ◌∷◌, ◌++◌, decimal, length, string_bytes};
 ghost use Rattle.std.specs.Fmt.{digit_glyph};
 ghost use Rattle.hc_text.specs.Printing.{hex_byte, hex_bytes};
@@ -7,10 +7,10 @@ ghost use Rattle.std.specs.String.{string_capacity, string_len};
 
 use itoa::Buffer;
 
-/// The digits of the largest number that `add_number` adds.
+/// The digits of the largest number that `add_number` appends.
 pub const MOST_DIGITS: usize = 20;
 
-/// Adds a text for which there is room. It takes no memory.
+/// Appends a text. The capacity must suffice. It allocates nothing.
 pub fn add_text(text: &str, out: &mut String)
     requires { string_len out.old + length text.now ≤ string_capacity out.old }
     ensures bytes { string_bytes out.new ≡ string_bytes out.old ++ text.now }
@@ -22,8 +22,7 @@ pub fn add_text(text: &str, out: &mut String)
     };
 }
 
-/// Adds a number in decimal digits, where there is room for the largest, of 20 digits. It takes no
-/// memory.
+/// Appends a number in decimal digits. The capacity must suffice for the largest, of 20 digits. It allocates nothing.
 pub fn add_number(number: u64, out: &mut String)
     requires { string_len out.old + MOST_DIGITS ≤ string_capacity out.old }
     ensures bytes { string_bytes out.new ≡ string_bytes out.old ++ decimal number }
@@ -34,7 +33,7 @@ pub fn add_number(number: u64, out: &mut String)
     add_text(digits.format(number), out);
 }
 
-/// Adds a byte as two lower-case hexadecimal digits; there is room. It takes no memory.
+/// Appends a byte as two lower-case hexadecimal digits. The capacity must suffice. It allocates nothing.
 pub fn add_byte(byte: u8, out: &mut String)
     requires { string_len out.old + 2 ≤ string_capacity out.old }
     ensures bytes { string_bytes out.new ≡ string_bytes out.old ++ hex_byte byte }
@@ -45,7 +44,7 @@ pub fn add_byte(byte: u8, out: &mut String)
     add_digit(byte % 16, out);
 }
 
-/// Adds a hexadecimal digit, 0 to 15.
+/// Appends a hexadecimal digit, 0 to 15.
 fn add_digit(digit: u8, out: &mut String)
     requires digit { digit < 16 }
     requires room { string_len out.old + 1 ≤ string_capacity out.old }
@@ -63,8 +62,7 @@ fn add_digit(digit: u8, out: &mut String)
     };
 }
 
-/// Adds bytes as two lower-case hexadecimal digits each, without spaces; there is room. It takes no
-/// memory.
+/// Appends bytes as two lower-case hexadecimal digits each, without spaces. The capacity must suffice. It allocates nothing.
 pub fn add_bytes(bytes: &[u8], out: &mut String)
     requires { string_len out.old + 2 * length bytes.now ≤ string_capacity out.old }
     ensures bytes { string_bytes out.new ≡ string_bytes out.old ++ hex_bytes bytes.now }

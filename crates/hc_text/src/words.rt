@@ -6,8 +6,7 @@ ghost use Rattle.hc_text.specs.Lines.{sole, words_of};
 use crate::lines::split_at_byte;
 use std::alloc::{AllocError, Global};
 
-/// The words of a line: what is between its spaces and isn't empty. `AllocError` where a growth was
-/// refused.
+/// Returns the words of a line: the parts between its spaces that are not empty. `AllocError` if an allocation fails.
 pub fn split_words<'a>(alloc: Global, line: &'a [u8]) -> Result<Vec<&'a [u8]>, AllocError>
     ensures { IfOk result (λ words. map (λ word. word.now) words.items ≡ words_of line.now) }
 {
@@ -23,7 +22,7 @@ pub fn split_words<'a>(alloc: Global, line: &'a [u8]) -> Result<Vec<&'a [u8]>, A
     Ok(words)
 }
 
-/// The one word of a line; none where it has no word, or more.
+/// Returns the one word of a line, or `None` if it has no word, or more.
 pub fn sole_word(line: &[u8]) -> Option<&[u8]>
     ensures { option_copied result ≡ sole (words_of line.now) }
 {

@@ -261,7 +261,7 @@ fn first_other<R: Wait>(
     number
 }
 
-/// The same from the machine's opening on.
+/// The number of the first cycle that shows something else, from the machine's opening on.
 fn first_other_of<R: Wait>(rt: &R, alloc: Global) -> Option<usize> {
     let mut slaves = always_there(alloc).ok()?;
     let inputs = (VarId::new(POSITION)?, VarId::new(PRESSURE)?);

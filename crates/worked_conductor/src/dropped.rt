@@ -36,7 +36,7 @@ fn left_by<R: Wait>(
     Some((first.0, first.1, second.0, second.1, third.0, third.1))
 }
 
-/// The same from the axis' opening on.
+/// What is left of dropped seats, from the axis' opening on.
 fn left_on_axis<R: Wait>(rt: &R, alloc: Global) -> Option<Left> {
     let (mut conductor, mut seats) = opened(rt, alloc)?;
     let left = left_by(rt, alloc, &mut conductor, &mut seats);

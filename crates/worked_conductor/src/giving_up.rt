@@ -167,7 +167,7 @@ fn first_other<R: Wait>(
     usize::from(number)
 }
 
-/// The same from the machine's opening on.
+/// The number of the first cycle that shows something else, from the machine's opening on.
 fn first_other_of<R: Wait>(rt: &R, alloc: Global) -> Option<usize> {
     let mut slaves = Slaves {
         axis: slave(alloc, 1002, 0).ok()?,

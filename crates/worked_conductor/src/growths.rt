@@ -26,7 +26,7 @@ enum Call {
     Move,
     /// Tasks 0 and 1 are sent, and the axis answers.
     Send,
-    /// The same by a worker each.
+    /// Tasks 0 and 1 are sent by a worker each, and the axis answers.
     SendAtOnce,
     /// What is in the arena arrives.
     Arrive,

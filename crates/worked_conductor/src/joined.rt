@@ -41,7 +41,7 @@ fn all_taken(conductor: &mut Conductor, seats: &mut [TaskSeat]) -> Joined
     (first, some, second, all, none)
 }
 
-/// The same from the axis' opening on.
+/// The posts before and after a taking, from the axis' opening on.
 fn all_taken_on_axis<R: Wait>(rt: &R, alloc: Global) -> Result<Joined, OpenFault> {
     let (mut conductor, mut seats) = opening(rt, alloc)?;
     let joined = all_taken(&mut conductor, &mut seats);

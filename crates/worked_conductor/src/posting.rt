@@ -53,7 +53,7 @@ pub fn is_posted(seat: &mut TaskSeat, byte: u8) -> bool
     seat.post().is_ok()
 }
 
-/// So many are accepted, and none is refused.
+/// Returns the count of `posts` accepted posts, none refused.
 pub fn accepted(posts: u32) -> Taken {
     Taken {
         accepted: posts,

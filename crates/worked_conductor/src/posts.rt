@@ -21,7 +21,7 @@ const ANSWER: &[u8] =
 const MISCOUNTED: &[u8] =
     b"\xff\xff\xff\xff\xff\xff\x02\0\0\0\0\x05\x88\xa4\x0f\x10\x0c\x05\0\0\0\x01\x03\0\0\0\x02\x55\x05\x02\0";
 
-/// The same frames before anything was posted.
+/// The frame of task 0 with serial 4, before anything was posted.
 const BLANK: &[u8] =
     b"\xff\xff\xff\xff\xff\xff\x02\0\0\0\0\x04\x88\xa4\x0f\x10\x0c\x04\0\0\0\x01\x03\0\0\0";
 

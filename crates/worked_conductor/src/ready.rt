@@ -153,6 +153,10 @@ fn is_written(
 ) -> Result<bool, CoreFault> {
     let mut frame = [0; 1514];
     let writes = conductor.next_writes(&mut frame)?;
+    // all that is owed is in this frame, so nothing further can be sent
+    if conductor.next_further(alloc, &mut [0; 1514]) != Err(CoreFault::UnderWay) {
+        return Ok(false);
+    }
     let Some(sent) = frame.get_mut(..writes.size) else {
         return Ok(false);
     };

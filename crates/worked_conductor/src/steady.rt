@@ -1,5 +1,5 @@
 //! Cycles of eight tasks with the lists and the memory of answers used again: posts, sendings, arrivals and a publishing, all
-//! in one thread. After the first ones no growth is met any more, which is counted from outside (`tools/sweep.sh`).
+//! in one thread. After the first ones no growth is met any more, which is counted from outside (`ci/sweep.sh`).
 
 use crate::fates::answer;
 use crate::lines::{FRAME, are_written, opened_line};
@@ -121,7 +121,7 @@ fn are_played<R: Wait>(
     Ok(right)
 }
 
-/// The same from the line's opening on.
+/// Returns whether `cycles` cycles go as they should, from the line's opening on.
 fn is_steady<R: Wait>(rt: &R, alloc: Global, cycles: u8) -> Result<bool, CoreFault> {
     let Some((mut conductor, mut seats)) = opened_line(rt, alloc, EIGHT) else {
         return Err(CoreFault::Memory);

@@ -25,13 +25,13 @@ pub enum Came {
 
 /// A step, with what is to come of it.
 pub enum Step {
-    /// So many blocks are written and answered well.
+    /// This many blocks are written and answered well.
     Write(u32),
     /// Outputs are lent, one byte that is 0, and then this one.
     Lend(u8),
     /// The outputs that were lent are posted, or not.
     Post(Result<(), PostFault>),
-    /// So many posts are taken and accepted, and so many refused.
+    /// This many posts are taken and accepted, and this many refused.
     Take(u32, u32),
     /// The inputs are mapped anew as they are: the epoch that begins with it.
     Remap(u32),

@@ -34,6 +34,7 @@ pub enum Asked {
     SendReady(&'static [u8]),
     Write,
     Writes,
+    Further,
     /// These bytes arrive.
     Arrive(&'static [u8]),
     /// The frame with a serial arrives that carries these datagrams.
@@ -208,6 +209,7 @@ fn other_answer(driven: &mut Driven, alloc: Global, asked: Asked) -> Result<Answ
         Asked::SendReady(tasks) => driven.put(alloc, Event::SendReady(tasks)),
         Asked::Write => driven.put(alloc, Event::SendWrite),
         Asked::Writes => driven.put(alloc, Event::SendWrites),
+        Asked::Further => driven.put(alloc, Event::SendFurther),
         Asked::Arrive(bytes) => driven.put(alloc, Event::Arrive(bytes)),
         Asked::Comes(serial, datagrams) => {
             let bytes = back(alloc, serial, datagrams)?;

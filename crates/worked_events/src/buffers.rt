@@ -123,7 +123,7 @@ fn send_often(driven: &mut Driven, alloc: Global, times: usize) -> Result<bool, 
 }
 
 /// Each sending allocates twice: the list of its texts and the text of its frame. All sendings use one list of frames.
-/// `tools/sweep.sh` compares the allocations of four sendings with those of ten.
+/// `ci/sweep.sh` compares the allocations of four sendings with those of ten.
 #[test]
 fn four_sendings(rt: HostRuntime) -> Result<(), Fail> {
     let alloc = rt.alloc();
@@ -133,7 +133,7 @@ fn four_sendings(rt: HostRuntime) -> Result<(), Fail> {
     Ok(())
 }
 
-/// Ten sendings, whose allocations `tools/sweep.sh` compares with those of four: twelve more.
+/// Ten sendings, whose allocations `ci/sweep.sh` compares with those of four: twelve more.
 #[test]
 fn ten_sendings(rt: HostRuntime) -> Result<(), Fail> {
     let alloc = rt.alloc();

@@ -249,7 +249,7 @@ fn held_of(driven: &mut Driven, alloc: Global, at: usize, old: u8) -> Result<u32
     })
 }
 
-/// The same on an axis at its opening.
+/// How many of a byte's other values hold on an axis at its opening that awaits the answer.
 fn held_at(alloc: Global, at: usize, old: u8) -> Result<u32, Fail> {
     let mut driven = opened_axis(alloc)?;
     Ok(held_of(&mut driven, alloc, at, old)?)
@@ -372,7 +372,7 @@ fn first_disturbed(
     Ok(None)
 }
 
-/// The same of a line with every block written.
+/// The first row that disturbs a line with every block written.
 fn first_disturbed_written(
     driven: &mut Driven,
     alloc: Global,
@@ -382,7 +382,7 @@ fn first_disturbed_written(
     first_disturbed(driven, alloc, rows)
 }
 
-/// The same of an axis.
+/// The first row that disturbs an axis with every block written.
 fn first_disturbed_of(alloc: Global, rows: &[Row]) -> Result<Option<usize>, Fail> {
     let mut driven = opened_axis(alloc)?;
     Ok(first_disturbed_written(&mut driven, alloc, rows)?)
@@ -419,7 +419,7 @@ fn last_is_answered(driven: &mut Driven, alloc: Global) -> Result<bool, AllocErr
     Ok(sent && first_wrong(driven, alloc, INDEX_ALONE)? == None)
 }
 
-/// The same of an axis.
+/// Returns whether the last frame alone is answered on an axis with every block written.
 fn last_disturbed_is_answered(alloc: Global) -> Result<bool, Fail> {
     let mut driven = opened_axis(alloc)?;
     Ok(last_is_answered(&mut driven, alloc)?)

@@ -51,9 +51,9 @@ fn field_answered(datagram: usize, at: usize, data: usize, value: u8) -> Meaning
     }
 }
 
-/// The same by the byte of the frame: destination and the source's first byte are anyone's; of the source's other bytes the
-/// last one is also each datagram's index; then come EtherType, length and type. A length of 28 or 48 ends with the first or the
-/// second datagram, which promises that another follows.
+/// The meaning of a changed byte of the frame: destination and the source's first byte are anyone's; the last of the source's
+/// other bytes is also each datagram's index; then come EtherType, length and type. A length of 28 or 48 ends with the first or
+/// the second datagram, which promises that another follows.
 fn answer_given(at: usize, value: u8) -> Meaning {
     match at {
         0..=6 => Meaning::AllDone,

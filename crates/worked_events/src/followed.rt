@@ -81,7 +81,7 @@ fn first_lost(
     Ok(None)
 }
 
-/// The same of a stage: its rows are followed one by one, else what it left.
+/// The first row of a stage that the copy loses; its rows are followed one by one.
 fn first_lost_in(
     driven: &mut Driven,
     copy: &mut Shown,

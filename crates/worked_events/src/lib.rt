@@ -25,6 +25,8 @@ mod forgotten;
 #[cfg(test)]
 mod frames;
 #[cfg(test)]
+mod further;
+#[cfg(test)]
 mod handed;
 #[cfg(test)]
 mod lines;

@@ -133,7 +133,7 @@ fn first_wrong_after(alloc: Global, driven: &mut Driven) -> Result<Option<usize>
     Ok(first_wrong(driven, alloc, AFTER)?)
 }
 
-/// The same from the axis' opening on.
+/// The first wrong step of sending in pieces, from the axis' opening on.
 fn wrong_in_pieces(alloc: Global) -> Result<Option<usize>, Fail> {
     let mut driven = opened_axis(alloc)?;
     Ok(first_wrong_after(alloc, &mut driven)?)
@@ -293,7 +293,7 @@ fn a_block_is_written_into_a_slice(rt: HostRuntime) -> Result<(), Fail> {
     Ok(())
 }
 
-/// The same of the frame that writes all blocks.
+/// The frame that writes all blocks, in a slice, and whether it is as it should be.
 fn all_written(core: &mut Core, out: &mut [u8]) -> (Result<SentWrites, CoreFault>, bool) {
     out.fill(0xaa);
     let answer_given = core.write_all_into(out);
@@ -426,7 +426,7 @@ fn runs(alloc: Global, core: &mut Core) -> Result<bool, AllocError> {
     )
 }
 
-/// The same from the axis' opening on.
+/// Returns whether lists of events of all six kinds are answered as they should be, from the axis' opening on.
 fn is_run(alloc: Global) -> Result<bool, Fail> {
     let mut driven = opened_axis(alloc)?;
     Ok(runs(alloc, &mut driven.core)?)

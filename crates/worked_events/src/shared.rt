@@ -18,7 +18,7 @@ pub const FIRST: Back = (Lrw, 0x0100_0000, b"\x34\x0a", 1);
 /// The datagram of task 1, its outputs, answered well: a slave writes it.
 pub const SECOND: Back = (Lrw, 0x0200_0000, b"\x02", 2);
 
-/// The same, though no slave has written it.
+/// The datagram of task 1, its outputs, which no slave has written.
 const UNWRITTEN: Back = (Lrw, 0x0200_0000, b"\x02", 1);
 
 /// What they are reported to be.

@@ -91,7 +91,7 @@ const MISSED: &[Row] = &[
     (Send(&[0]), Wanted::Refused(CoreFault::Unprogrammed(1))),
 ];
 
-/// The same datagram with the serial 4, and with 5.
+/// The datagram of the block with the serial 4, and with 5.
 const AGAIN: &[u8] =
     b"\x05\x04\xe9\x03\x10\x06\x10\0\0\0\x01\0\0\x01\x02\0\0\x03\x80\x11\0\x01\x01\0\0\0";
 

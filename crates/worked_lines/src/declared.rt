@@ -34,7 +34,7 @@ group = [
 ]
 "#;
 
-/// The same under another alias.
+/// The feeder under another alias.
 const OTHER_ALIAS: &str = r#"
 group = [
   { alias = 201, slave = [

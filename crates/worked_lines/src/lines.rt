@@ -41,7 +41,7 @@ const SHARED_BYTES: &[Step] = &[
     ),
 ];
 
-/// The same with an input area of 1 bit, the last of the first slave.
+/// Areas of three bits, with an input area of 1 bit, the last of the first slave.
 const AND_AN_INPUT: &str = r#"
 slave = [
   { station = 1, area = [
@@ -98,7 +98,7 @@ const MOVED: &[Step] = &[
     Remap(1001, 0, &[0x1600, 0x1600], Err(EditFault::RepeatedPdo)),
 ];
 
-/// The same slave in a group of its own.
+/// A slave in a group of its own, whose outputs move to task 1.
 const ONE_GROUP: &str = r#"
 group = [
   { alias = 100, slave = [
@@ -126,7 +126,7 @@ const SILENCED: &[Step] = &[
     Datagrams(0, &[OUTPUTS]),
 ];
 
-/// The same group with nothing assigned.
+/// A group with nothing assigned.
 const EMPTY_GROUP: &str = r#"
 group = [
   { alias = 100, slave = [

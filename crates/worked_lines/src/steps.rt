@@ -206,7 +206,8 @@ fn first_wrong(plan: &mut Plan, alloc: Global, steps: &[Step]) -> Result<Option<
     Ok(None)
 }
 
-/// The same of the line of a text, from its opening on.
+/// The number, from 0, of the first step that is not answered as it should be, in the line of a text from its opening on; none
+/// if all are.
 pub fn first_wrong_of(alloc: Global, text: &str, steps: &[Step]) -> Result<Option<usize>, Fail> {
     let mut plan = plan_of(alloc, text)?;
     first_wrong(&mut plan, alloc, steps)

@@ -74,7 +74,7 @@ task 1 parts 1 0
 datagram 0 address 0x02000000 length 1 expected 2
 ";
 
-/// The same PDOs begin an epoch alone.
+/// A remap to the assigned PDOs begins an epoch, and changes nothing else.
 const SAME: &str = "%%\nremap 1001 1 0x1a00\nremap 1001 1 0x1a00\nremap 1001 1 6656\n";
 
 /// What that prints.

@@ -265,7 +265,7 @@ write done
 sent 4: ffffffffffff02000000000488a4da150c0400000001e1820000<zeros 739>0c0400000002e1020000<zeros 739>
 ";
 
-/// The same with a byte more in the first slave.
+/// Frames of a line with a byte more in the first slave.
 const APART: &str = "%%
 write
 arrive ffffffffffff02000000000088a41410050001000008080000000010e202640001000100

@@ -27,7 +27,7 @@ index = 0x1a00
 entries = [[2, 12]]
 "#;
 
-/// The same slave in a group, no mandatory one.
+/// A slave with an output and an input area in a group, and no mandatory one.
 pub const ONE_IN_GROUP: &str = r#"[[group]]
 alias = 100
 [[group.slave]]

@@ -64,7 +64,7 @@ pub struct Meets {
 }
 
 impl Meets {
-    /// So many workers meet.
+    /// Returns a gate at which `workers` workers meet.
     pub fn of(workers: u64) -> Meets {
         Meets {
             workers,

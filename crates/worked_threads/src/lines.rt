@@ -124,7 +124,7 @@ fn first_wrong(
     Ok(None)
 }
 
-/// The same both ways.
+/// The numbers of the first wrong run and of its step, through the segment and through each of its machines.
 pub fn first_wrongs(
     alloc: Global,
     runs: &[Run],

@@ -9,10 +9,10 @@ use hc_mail::sender::Sender;
 use std::test::Fail;
 use std::thread;
 
-/// So many contents are sent at full speed.
+/// The number of contents that are sent at full speed.
 const SENDINGS: u32 = 2_000;
 
-/// So often a look is tried.
+/// The most looks for a content.
 const TURNS: u32 = 100_000_000;
 
 /// The head of an image of an epoch. The task's epoch is half of it, the first serial twice, the post that was taken last has the

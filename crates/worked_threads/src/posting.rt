@@ -113,11 +113,11 @@ pub fn all_come(receiver: &mut PostReceiver, takings: &[Taking]) -> bool {
 pub enum Step {
     /// A buffer is handed out for this epoch, and posted with these bytes.
     Post(u32, [u8; 3]),
-    /// The same for the epochs 0 to 3.
+    /// Buffers are handed out for the epochs 0 to 3, and each is posted with these bytes.
     PostFour([u8; 3]),
     /// A buffer is held for this epoch, and posted with these bytes.
     PostHeld(u32, [u8; 3]),
-    /// So many outputs are begun for this epoch, and are zeros. Each is then the byte.
+    /// This many outputs are begun for this epoch, and are zeros. Each is then the byte.
     Begin(u32, usize, u8),
     /// The buffer that is held is posted, or isn't for this cause.
     Held(Result<(), PostFault>),

@@ -13,7 +13,7 @@ use std::sync::Wait;
 use std::sync::atomic::{AtomicBool, Ordering};
 use std::thread::Threads;
 
-/// So many turns, with four publishings each.
+/// The number of turns, with four publishings each.
 const TURNS: u32 = 500;
 
 /// Whether each view was of one epoch, none after an earlier one, and the last ones show all.

@@ -276,7 +276,7 @@ fn first_unseen<R: Wait>(
     Ok(None)
 }
 
-/// The same of the seat of task 0 at a line's opening.
+/// The number of the first row that the seat of task 0 does not see, from a line's opening on.
 fn first_unseen_of<R: Wait>(rt: &R, alloc: Global) -> Result<Option<usize>, AllocError> {
     let Some((mut plan, mut publisher, seats)) = opened(rt, alloc) else {
         return Err(AllocError);

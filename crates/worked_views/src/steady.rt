@@ -77,7 +77,7 @@ fn is_steady<R: Wait>(
     Ok(seen)
 }
 
-/// The same at the line's opening.
+/// Returns whether a seat that learns a note after each of `cycles` cycles sees the last answer, from the line's opening on.
 fn is_steady_of<R: Wait>(rt: &R, alloc: Global, cycles: u32) -> Result<bool, AllocError> {
     let Some((plan, mut publisher, seats)) = opened(rt, alloc) else {
         return Err(AllocError);

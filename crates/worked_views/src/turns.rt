@@ -42,7 +42,7 @@ fn publish_turn<R: Wait>(
     publish(rt, plan, publisher).ok()
 }
 
-/// So many times the feeder is docked and undocked: four publishings each.
+/// The feeder is docked and undocked, again and again: four publishings each time.
 pub fn publish_turns<R: Wait>(
     rt: &R,
     alloc: Global,

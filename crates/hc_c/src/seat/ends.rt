@@ -23,7 +23,7 @@ pub struct OwnerEnd {
     ghost takes_posts: { posts.room ≡ post_room },
 }
 
-/// What a task posts by. It keeps the post that it made last, beside the one that waits.
+/// The means by which a task posts, with the post that it made last.
 #[derive(Drop)]
 pub struct TaskPosts {
     pub sender: Sender<TaskPost>,
@@ -41,7 +41,8 @@ pub struct TaskEnd {
     ghost roomy: { images.room ≡ image_room },
 }
 
-/// The owner's ends of the seats of tasks 0 to 7, none if the task has no seat, and of those that only look, by their numbers.
+/// The owner's ends of all seats of a line: one for each task 0 to 7, or none, and those of seats that only look, by their
+/// numbers.
 #[derive(Drop)]
 pub struct OwnerEnds {
     pub by_task: [Option<OwnerEnd>; 8],

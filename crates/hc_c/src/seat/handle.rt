@@ -1,4 +1,4 @@
-//! What C keeps of a seat between two calls.
+//! The handle of a seat, which C stores between two calls.
 ghost use Rattle.std.specs.Prelude.{◌≡◌, ◌==◌, IsSome, is_some};
 ghost use Rattle.std.specs.declared.option.Option.{Option};
 ghost use Rattle.std.specs.declared.option.Option.TheVariants.{None, Some};
@@ -15,7 +15,7 @@ use std::alloc::Global;
 use std::marker::Model;
 use std::mem;
 
-/// A task's end by where it lies in memory, or none. Its type names no other type of ours, so that C may have it.
+/// The address of a task's end, or none. The type names no other type of this crate, so that C can have it.
 #[repr(C)]
 #[derive(Drop)]
 pub struct SeatHolding {
@@ -32,7 +32,7 @@ impl SeatHolding {
     ghost use types.Logic.{sem};
     ghost use Rattle.hc_c.specs.LendingEnd.{LendsEnd};
 
-    /// A handle without a task's end: a null pointer.
+    /// Returns a null pointer: no end is held.
     fn nothing(alloc: Global) -> SeatHolding
         ensures { result.value ≡ None }
     {
@@ -42,7 +42,7 @@ impl SeatHolding {
         }
     }
 
-    /// A handle of the task's end, from its place in memory.
+    /// Returns a pointer to a task's end, from its address.
     fn of(own: Unboxed<TaskEnd, Global>) -> SeatHolding
         ensures { result.value ≡ Some own.value }
     {
@@ -53,7 +53,7 @@ impl SeatHolding {
         }
     }
 
-    /// The task end's place in memory. The handle must hold an end.
+    /// Returns the address of the task's end. An end must be held.
     fn into_unboxed(self) -> Unboxed<TaskEnd, Global>
         requires { IsSome self.value }
         ensures { self.value ≡ Some result.value }
@@ -65,7 +65,7 @@ impl SeatHolding {
         }
     }
 
-    /// The task's end, where it lies: no word of the handle is written.
+    /// Lends the task's end in place: no word of the handle is written.
     pub fn end_mut(&mut self) -> &mut TaskEnd
         requires { IsSome self.old.value }
         ensures* writes_back { sem 𝓛 (LendsEnd self.entry result) }
@@ -75,7 +75,7 @@ impl SeatHolding {
     }
 }
 
-/// What C keeps of a seat: zeros if none is open.
+/// The two words that C stores. They are zeros if no seat is open.
 #[repr(C)]
 #[derive(Drop)]
 pub struct SeatHandle {
@@ -87,7 +87,7 @@ pub struct SeatHandle {
 impl SeatHandle {
     ghost use Rattle.hc_c.specs.Handles.{no_line_number};
 
-    /// The handle of an open seat.
+    /// Returns the handle of an open seat.
     pub fn of(own: Box<TaskEnd, Global>) -> SeatHandle
         ensures { result.holding.value ≡ Some own.value }
     {
@@ -97,14 +97,14 @@ impl SeatHandle {
         }
     }
 
-    /// Whether a seat is open.
+    /// Returns whether a seat is open.
     pub fn is_open(&self) -> bool
         ensures { result ≡ is_some self.now.holding.value }
     {
         self.mark == OPEN_SEAT
     }
 
-    /// The answer of a handle that holds no seat: `CLOSED` if it is closed, and `MISUSED` if it is none.
+    /// Returns the answer of a handle without a seat: `CLOSED` if it is closed, `MISUSED` if it was never zeroed.
     pub fn refusal(&self) -> u8
         requires { self.now.holding.value ≡ None }
         ensures { result ≡ no_line_number self.now.mark }
@@ -112,7 +112,7 @@ impl SeatHandle {
         if self.mark == 0 { CLOSED } else { MISUSED }
     }
 
-    /// Takes the task's end out of the handle, which is closed then. The handle must hold one.
+    /// Takes the task's end out of the handle, which is then closed. The handle must hold one.
     pub fn take(&mut self, alloc: Global) -> Box<TaskEnd, Global>
         requires { IsSome self.old.holding.value }
         ensures taken { self.old.holding.value ≡ Some result.value }
@@ -127,8 +127,8 @@ impl SeatHandle {
     }
 }
 
-/// The end that a seat's handle holds may go to another thread between two calls, and its memory may be given back there: its
-/// type is `Send`.
+/// Shows by its type that the end in a seat's handle is `Send`: between two calls it may move to another thread, and be freed
+/// there.
 pub fn end_crosses(own: Box<TaskEnd, Global>) -> Box<TaskEnd, Global>
     ensures { result ≡ own }
 {

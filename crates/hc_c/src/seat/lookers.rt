@@ -17,7 +17,7 @@ pub struct LookerEnd {
     ghost of_task: { task < TASKS },
 }
 
-/// The ends by their numbers, as many as the line was opened with; none of a number without a seat. Contracts see the list.
+/// The ends by their numbers, as many as the line was opened with. A number without a seat has none. Contracts see the list.
 #[derive(Drop)]
 pub struct Lookers {
     pub(crate) ends: Vec<Option<LookerEnd>>,
@@ -33,7 +33,7 @@ impl Model for Lookers {
 }
 
 impl Lookers {
-    /// So many numbers without a seat. `AllocError` if an allocation fails.
+    /// Returns `count` numbers without a seat. `AllocError` if an allocation fails.
     pub fn new(alloc: Global, count: u32) -> Result<Lookers, AllocError>
         ensures { IfOk result (λ lookers. lookers ≡ replicate count None) }
     {

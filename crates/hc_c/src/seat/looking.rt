@@ -1,11 +1,11 @@
-//! Seats that only look are opened: for threads that read a task's images and post nothing.
+//! Opening of seats that only look, for threads that read a task's images and post nothing.
 ghost use Rattle.std.specs.Prelude.{◌≡◌, ◌≢◌, ◌<◌, IfOk, IfSome, IsSome, None, length};
 ghost use Rattle.hc_records.specs.declared.limits.TheConstants.{TASKS};
 ghost use Rattle.hc_c.specs.Handles.{HoldsAsBefore, IfServed, no_line_number};
 ghost use Rattle.hc_c.specs.Seats.{AddsLooker, AnswersLooking, AreLookerEnds, SeatAsBefore};
 
 use crate::embedded::Embedded;
-use crate::handle::Handle;
+use crate::handle::{Handle, with_line};
 use crate::numbers::{DONE, MEMORY, MISUSED};
 use crate::seat::ends::TaskEnd;
 use crate::seat::handle::SeatHandle;
@@ -19,8 +19,8 @@ use hc_mail::image::LineState;
 use hc_records::limits::TASKS;
 use std::alloc::{AllocError, Global};
 
-/// The two ends of a new seat that only looks at a task, whose last sending begins with the serial `first`. `AllocError` if an
-/// allocation fails.
+/// Returns the two ends of a new seat that only looks at a task, whose last sending begins with the serial `first`.
+/// `AllocError` if an allocation fails.
 fn make_looker(
     alloc: Global,
     core: &Core,
@@ -44,7 +44,7 @@ fn make_looker(
     Ok((owner, own))
 }
 
-/// Opens a seat that only looks in a handle: `DONE`, or why it is refused.
+/// Opens a seat that only looks in a handle. Returns `DONE` or the number of the refusal.
 fn open_looker(
     alloc: Global,
     own: &mut Embedded,
@@ -76,14 +76,15 @@ fn open_looker(
     DONE
 }
 
-/// Opens a seat that only looks at a task, 0 to 7, in a closed handle, and shows it a first image. `number` is below the number of
-/// such seats that the line was opened for. It allocates all memory that the seat ever needs. If the number had a seat, that gets a
-/// last image which says that it is replaced. Returns `DONE`. It fails with one of these, and line and seat are as they were:
+/// Opens a seat that only looks at a task, 0 to 7, in a closed handle, and shows it a first image. `number` is below the number
+/// of such seats in the line's options. It allocates all memory that the seat ever needs. If the number had a seat, that one is
+/// shown a last image, which says that it is replaced. Returns `DONE`. Fails with one of these; then line and seat are
+/// unchanged:
 ///
 /// - `CLOSED` or `MISUSED`: no line is open, or its handle was never zeroed.
 /// - `BUSY`: another call with the line's handle runs.
 /// - `MISUSED`: the seat is open, its handle was never zeroed, or the line was opened for fewer such seats.
-/// - 8: the task is over 7.
+/// - `NoSuchTask`, 8: the task is over 7.
 /// - `MEMORY`: an allocation failed.
 #[unsafe(no_mangle)]
 pub extern "C" fn zangjulf_look_open(
@@ -99,11 +100,5 @@ pub extern "C" fn zangjulf_look_open(
     ensures unchanged { result ≢ DONE → HoldsAsBefore handle.old handle.new × SeatAsBefore seat.old seat.new }
     ensures closed { handle.old.holding.value ≡ None → result ≡ no_line_number handle.old.mark }
 {
-    let Some(entered) = handle.enter() else {
-        return handle.refusal();
-    };
-    let own = handle.holding.line_mut();
-    let answer = open_looker(alloc, own, number, task, seat);
-    own.calls.end(entered);
-    answer
+    with_line!(handle, |own| open_looker(alloc, own, number, task, seat))
 }

@@ -1,4 +1,4 @@
-//! A seat is opened and closed.
+//! Opening and closing of a task's seat.
 ghost use Rattle.std.specs.Prelude.{◌≡◌, ◌≢◌, ◌<◌, IfOk, IfSome, IsSome, None};
 ghost use Rattle.hc_records.specs.declared.limits.TheConstants.{TASKS};
 ghost use Rattle.hc_c.specs.Handles.{HoldsAsBefore, IfServed, no_line_number};
@@ -8,7 +8,7 @@ ghost use Rattle.hc_c.specs.Seats.{AnswersOpening, AreEnds, AreEndsOfPosts, Begi
 ghost use Rattle.hc_mail.specs.declared.image.LineState.TheVariants.{Open};
 
 use crate::embedded::Embedded;
-use crate::handle::Handle;
+use crate::handle::{Handle, with_line};
 use crate::numbers::{DONE, MEMORY, MISUSED};
 use crate::seat::ends::{OwnerEnd, TaskEnd, TaskPosts};
 use crate::seat::handle::SeatHandle;
@@ -26,8 +26,8 @@ use hc_mail::sender::Sender;
 use hc_records::limits::{MOST_DATAGRAMS, TASKS};
 use std::alloc::{AllocError, Global};
 
-/// The two ends of a new mailbox for the images of a task. It begins with an image with this head, which the task's end has seen.
-/// `AllocError` if an allocation fails.
+/// Returns the two ends of a new mailbox for the images of a task. It holds an image with this head, which the task's end has
+/// seen. `AllocError` if an allocation fails.
 pub fn open_images(
     alloc: Global,
     core: &Core,
@@ -46,7 +46,7 @@ pub fn open_images(
     Ok((sender, receiver))
 }
 
-/// What a task posts by, and the owner's end for it. `AllocError` if an allocation fails.
+/// Returns the means by which a task posts, and the owner's end of them. `AllocError` if an allocation fails.
 fn open_posts(alloc: Global) -> Result<(TaskPosts, Receiver<TaskPost>), AllocError>
     ensures { IfOk result (λ ends. AreEndsOfPosts ends.0 ends.1) }
 {
@@ -55,7 +55,8 @@ fn open_posts(alloc: Global) -> Result<(TaskPosts, Receiver<TaskPost>), AllocErr
     Ok((TaskPosts { sender, last }, receiver))
 }
 
-/// The two ends of a new seat of a task, whose last sending begins with the serial `first`. `AllocError` if an allocation fails.
+/// Returns the two ends of a new seat of a task, whose last sending begins with the serial `first`. `AllocError` if an
+/// allocation fails.
 fn make_ends(
     alloc: Global,
     core: &Core,
@@ -81,7 +82,7 @@ fn make_ends(
     Ok((owner, own))
 }
 
-/// Opens a task's seat in a handle: `DONE`, or why it is refused.
+/// Opens a task's seat in a handle. Returns `DONE` or the number of the refusal.
 fn open_seat(alloc: Global, own: &mut Embedded, task: u8, seat: &mut SeatHandle) -> u8
     ensures answer { AnswersOpening seat.old.mark task result }
     ensures opened { result ≡ DONE → IfSome seat.new.holding.value (OpensLineSeat task own.old own.new) }
@@ -104,13 +105,13 @@ fn open_seat(alloc: Global, own: &mut Embedded, task: u8, seat: &mut SeatHandle)
 }
 
 /// Opens the seat of a task, 0 to 7, in a closed handle, and shows it a first image. It allocates all memory that the seat ever
-/// needs. If the task had a seat, that gets a last image which says that it is replaced; what it posts is never taken. Returns
-/// `DONE`. It fails with one of these, and line and seat are as they were:
+/// needs. If the task had a seat, that one is shown a last image, which says that it is replaced; its posts are never taken.
+/// Returns `DONE`. Fails with one of these; then line and seat are unchanged:
 ///
 /// - `CLOSED` or `MISUSED`: no line is open, or its handle was never zeroed.
 /// - `BUSY`: another call with the line's handle runs.
 /// - `MISUSED`: the seat is open, or its handle was never zeroed.
-/// - 8: the task is over 7.
+/// - `NoSuchTask`, 8: the task is over 7.
 /// - `MEMORY`: an allocation failed.
 #[unsafe(no_mangle)]
 pub extern "C" fn zangjulf_seat_open(
@@ -125,17 +126,11 @@ pub extern "C" fn zangjulf_seat_open(
     ensures unchanged { result ≢ DONE → HoldsAsBefore handle.old handle.new × SeatAsBefore seat.old seat.new }
     ensures closed { handle.old.holding.value ≡ None → result ≡ no_line_number handle.old.mark }
 {
-    let Some(entered) = handle.enter() else {
-        return handle.refusal();
-    };
-    let own = handle.holding.line_mut();
-    let number = open_seat(alloc, own, task, seat);
-    own.calls.end(entered);
-    number
+    with_line!(handle, |own| open_seat(alloc, own, task, seat))
 }
 
-/// Closes a seat and gives its memory back. A post that was not taken yet can still be taken. Returns `DONE`, and the handle may be
-/// opened anew. It fails with `CLOSED` if the seat is closed, and with `MISUSED` if its handle was never zeroed.
+/// Closes a seat and frees its memory. A post that waits can still be taken. Returns `DONE`, and the handle may be opened
+/// again. Fails with `CLOSED` if the seat is closed, and with `MISUSED` if its handle was never zeroed.
 #[unsafe(no_mangle)]
 pub extern "C" fn zangjulf_seat_close(alloc: Global, seat: &mut SeatHandle) -> u8
     ensures answer { IsSome seat.old.holding.value → result ≡ DONE }

@@ -1,4 +1,4 @@
-//! New ends of seats take their places among the owner's.
+//! Places of new seats among the owner's ends.
 ghost use Rattle.std.specs.Prelude.{◌≡◌, ◌<◌, ◌∷◌, [], IfOk, None, Some, length, set, slice_index_or};
 ghost use Rattle.hc_records.specs.declared.limits.TheConstants.{TASKS};
 ghost use Rattle.hc_mail.specs.declared.image.LineState.TheVariants.{Replaced};
@@ -14,7 +14,7 @@ use std::alloc::{AllocError, Global};
 use std::mem;
 
 impl OwnerEnds {
-    /// No seat, and so many numbers for seats that only look. `AllocError` if an allocation fails.
+    /// Returns no seats, and `lookers` numbers for seats that only look. `AllocError` if an allocation fails.
     pub fn new(alloc: Global, lookers: u32) -> Result<OwnerEnds, AllocError>
         ensures { IfOk result (λ ends. ends ≡ no_seats lookers) }
     {
@@ -25,8 +25,8 @@ impl OwnerEnds {
         })
     }
 
-    /// Gives a task this end in place of what it had, and returns that, whose seat gets a last image: it is replaced. The task's
-    /// last sending begins with the serial `first`.
+    /// Places an end as that of a task's seat, and returns the one that it replaces. The replaced seat is shown a last image,
+    /// which says so. The task's last sending begins with the serial `first`.
     pub fn place(&mut self, core: &Core, task: u8, first: u64, owner: OwnerEnd) -> Option<OwnerEnd>
         requires { task < TASKS }
         ensures placed { self.new.by_task ≡ set self.old.by_task task (Some owner) }
@@ -41,8 +41,8 @@ impl OwnerEnds {
         was
     }
 
-    /// Gives a number this end of a seat that only looks in place of what it had, and returns that, whose seat gets a last image: it
-    /// is replaced.
+    /// Places an end of a seat that only looks at a number, and returns the one that it replaces. The replaced seat is shown a
+    /// last image, which says so.
     pub fn place_looker(
         &mut self,
         core: &Core,
@@ -60,7 +60,7 @@ impl OwnerEnds {
 }
 
 impl Lookers {
-    /// Gives a number this end in place of what it had, and returns that, whose seat gets a last image: it is replaced.
+    /// Places an end at a number, and returns the one that it replaces. The replaced seat is shown a last image, which says so.
     pub fn place(
         &mut self,
         core: &Core,
@@ -79,7 +79,7 @@ impl Lookers {
         was
     }
 
-    /// How many numbers there are.
+    /// Returns how many numbers there are for seats that only look.
     pub fn count(&self) -> usize
         ensures { result ≡ length self.now }
     {

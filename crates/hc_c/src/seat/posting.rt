@@ -1,4 +1,4 @@
-//! A task's thread posts at its seat.
+//! Posts of a task's thread at its seat.
 ghost use Rattle.std.specs.Prelude.{◌≡◌, ◌≢◌, ◌≤◌, IfSome, None, is_some, length};
 ghost use Rattle.hc_c.specs.Handles.{no_line_number};
 ghost use Rattle.hc_c.specs.SeatRoom.{image_room, post_room};
@@ -10,7 +10,7 @@ use crate::seat::handle::SeatHandle;
 use hc_events::faults::CoreFault;
 use hc_mail::image::{LineState, TaskImage};
 
-/// Why outputs cannot be posted for an epoch beside an image, if they cannot.
+/// Returns why outputs cannot be posted for an epoch beside an image, or `None` if they can.
 fn refusal(image: &TaskImage, epoch: u32, bytes: &[u8]) -> Option<CoreFault>
     requires { image.now.room ≡ image_room }
     ensures fault { result ≡ seat_fault image.now epoch bytes.now }
@@ -36,7 +36,7 @@ fn post_bytes(posts: &mut TaskPosts, epoch: u32, bytes: &[u8]) -> u64
     posts.sender.send()
 }
 
-/// Whether an image says that the line is open and the seat the present one.
+/// Returns whether an image says that the line is open and the seat not replaced.
 fn is_current(image: &TaskImage) -> bool
     ensures { result ≡ is_current_image image.now }
 {
@@ -46,7 +46,7 @@ fn is_current(image: &TaskImage) -> bool
     }
 }
 
-/// The answer to a post at a seat: `DONE`, or why nothing is posted.
+/// Returns the answer to a post at a seat: `DONE`, or why nothing is posted.
 fn answer_of(end: &TaskEnd, epoch: u32, bytes: &[u8]) -> u8
     ensures answer { result ≡ post_number end.now epoch bytes.now }
     ensures most { result ≡ DONE → length bytes.now ≤ post_room.0 }
@@ -64,16 +64,16 @@ fn answer_of(end: &TaskEnd, epoch: u32, bytes: &[u8]) -> u8
     }
 }
 
-/// Posts all outputs of the seat's task for an epoch from the task's epoch to the viewed image's, as many bytes as that image has
-/// output bytes (this project's profile). The post replaces the one that waits, and waits until the owner takes it. It waits for
-/// nobody and allocates nothing. Returns `DONE`, and `number` is the post's number: the posts of a seat are numbered from 1. It
-/// fails with the first of these that holds, and nothing is posted:
+/// Posts all outputs of the seat's task for an epoch, which may be any from the task's epoch to the viewed image's: as many
+/// bytes as that image has outputs (this project's profile). The post replaces the one that waits, and waits until the owner
+/// takes it. It allocates nothing and waits for nobody. Returns `DONE`, and `number` is the post's number; the posts of a seat
+/// are numbered from 1. Fails with the first of these; then nothing is posted:
 ///
 /// - `CLOSED` or `MISUSED`: the seat is closed, or its handle was never zeroed.
 /// - `MISUSED`: the seat only looks.
 /// - `CLOSED`: the viewed image says that the line is closed, or that the seat is replaced.
-/// - 15: the epoch is another one.
-/// - 16: the image has another number of output bytes.
+/// - `STALE_POST`, 15: the epoch is another one.
+/// - `PostLength`, 16: the image has another number of output bytes.
 #[unsafe(no_mangle)]
 pub extern "C" fn zangjulf_seat_post(
     seat: &mut SeatHandle,

@@ -1,4 +1,4 @@
-//! The owner shows each seat what its task reads.
+//! Images that the owner shows to the seats.
 ghost use Rattle.std.specs.Prelude.{◌≡◌, ◌≢◌, ◌+◌, ◌≤◌, ◌<◌, IfSome, None, false, length, take};
 ghost use Rattle.std.specs.Option.{option_copied};
 ghost use Rattle.hc_records.specs.declared.limits.TheConstants.{MOST_DATAGRAMS, TASKS};
@@ -14,7 +14,7 @@ ghost use Rattle.hc_c.specs.SeatRoom.{image_room};
 ghost use Rattle.hc_c.specs.Seats.{ShowsLine};
 ghost use Rattle.hc_c.specs.declared.numbers.TheConstants.{BUSY};
 
-use crate::handle::Handle;
+use crate::handle::{Handle, with_line};
 use crate::looking::part_at;
 use crate::numbers::DONE;
 use crate::seat::ends::{OwnerEnd, OwnerEnds};
@@ -25,7 +25,7 @@ use hc_mail::sender::Sender;
 use hc_places::table::Datagram;
 use hc_records::limits::TASKS;
 
-/// Adds a datagram of so many bytes to the image, with its data, if it has some, and the serial that they answer.
+/// Adds a datagram of `size` bytes to the image, with its data and the serial that they answer, if it has some.
 fn add_slot(images: &mut Sender<TaskImage>, slot: Option<&[u8]>, serial: Option<u64>, size: usize)
     requires fits { IfSome (option_copied slot) (λ bytes. length bytes ≡ size) }
     requires bytes { length images.old.own.bytes + size ≤ images.old.own.room.0 }
@@ -39,7 +39,7 @@ fn add_slot(images: &mut Sender<TaskImage>, slot: Option<&[u8]>, serial: Option<
     }
 }
 
-/// Adds these datagrams of a task to the image, from this number on. A task has 16 datagrams at most, so deep is this recursion.
+/// Adds the datagrams of a task from a number on to the image. A task has at most 16, which bounds the recursion.
 fn add_slots(
     core: &Core,
     task: u8,
@@ -64,7 +64,7 @@ fn add_slots(
     add_slots(core, task, number + 1, rest, images);
 }
 
-/// The first bytes, so many at most.
+/// Returns the first bytes, at most `size`.
 fn front(bytes: &[u8], size: usize) -> &[u8]
     ensures { result.now ≡ take size bytes.now }
 {
@@ -75,7 +75,8 @@ fn front(bytes: &[u8], size: usize) -> &[u8]
     }
 }
 
-/// Adds so many of the bytes with which these datagrams of a task would be sent to the image's outputs. So deep is this recursion too.
+/// Adds at most `size` of the bytes with which these datagrams of a task would be sent to the image's outputs. There are at
+/// most 16, which bounds the recursion.
 fn add_outputs(
     core: &Core,
     task: u8,
@@ -100,8 +101,8 @@ fn add_outputs(
     add_outputs(core, task, number + 1, rest, left, images);
 }
 
-/// What an image of a task says beside its data. The task's last sending begins with the serial `first`, and the post that was
-/// taken last has the number `taken`.
+/// Returns the head of a task's image, which is all but its data. The task's last sending begins with the serial `first`, and
+/// the post that was taken last has the number `taken`.
 pub fn head_of(
     core: &Core,
     task: u8,
@@ -124,7 +125,7 @@ pub fn head_of(
     }
 }
 
-/// Sends an image of a task with this head: what the task reads, and its outputs.
+/// Sends an image of a task with this head: its inputs and its outputs.
 pub fn send_image(core: &Core, task: u8, head: ImageHead, images: &mut Sender<TaskImage>)
     requires task { task < TASKS }
     requires room { images.old.own.room ≡ image_room }
@@ -149,8 +150,8 @@ pub fn show_end(core: &Core, task: u8, first: u64, line: LineState, end: &mut Ow
     send_image(core, task, head, &mut end.images);
 }
 
-/// Shows the seat of each task from this number on an image; no task after so many has one. `sent_from` has the first serial of
-/// each task's last sending. There are eight tasks, so deep is this recursion.
+/// Shows an image to the seat of each task from a number on; tasks beyond the list have no seat. `sent_from` has the first
+/// serial of each task's last sending. There are at most eight, which bounds the recursion.
 fn show_all(
     core: &Core,
     sent_from: &[u64; 8],
@@ -185,7 +186,7 @@ pub fn show_looker(core: &Core, sent_from: &[u64; 8], line: LineState, end: &mut
     send_image(core, end.task, head, &mut end.images);
 }
 
-/// Shows each of these seats that only look an image of its task. There are 64 at most, so deep is this recursion.
+/// Shows each of these seats that only look an image of its task. There are at most 64, which bounds the recursion.
 fn show_lookers_of(
     core: &Core,
     sent_from: &[u64; 8],
@@ -218,8 +219,8 @@ pub fn show_ends(core: &Core, sent_from: &[u64; 8], line: LineState, ends: &mut 
     show_lookers(core, sent_from, line, &mut ends.lookers);
 }
 
-/// Shows each seat of a line what its task reads now, as `zangjulf_read` gives it, and its outputs, as they would be sent now. It
-/// waits for nobody and allocates nothing. Returns `DONE`. It fails with one of these, and nothing is shown:
+/// Shows each seat of a line the present image of its task, as `zangjulf_read` gives it, and the task's outputs, as they would
+/// be sent now. It allocates nothing and waits for nobody. Returns `DONE`. Fails with one of these; then nothing is shown:
 ///
 /// - `CLOSED` or `MISUSED`: no line is open, or the handle was never zeroed.
 /// - `BUSY`: another call with the handle runs.
@@ -230,11 +231,8 @@ pub extern "C" fn zangjulf_show(handle: &mut Handle) -> u8
     ensures unchanged { result ≢ DONE → HoldsAsBefore handle.old handle.new }
     ensures closed { handle.old.holding.value ≡ None → result ≡ no_line_number handle.old.mark }
 {
-    let Some(entered) = handle.enter() else {
-        return handle.refusal();
-    };
-    let own = handle.holding.line_mut();
-    show_ends(&own.core, &own.sent_from, LineState::Open, &mut own.ends);
-    own.calls.end(entered);
-    DONE
+    with_line!(handle, |own| {
+        show_ends(&own.core, &own.sent_from, LineState::Open, &mut own.ends);
+        DONE
+    })
 }

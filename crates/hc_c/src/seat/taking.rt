@@ -1,4 +1,4 @@
-//! The owner takes what tasks posted at their seats.
+//! Posts that the owner takes from the seats.
 ghost use Rattle.std.specs.Prelude.{◌≡◌, ◌≢◌, ◌+◌, ◌^◌, ◌<◌, ◌≤◌, IfSome, None, false, length};
 ghost use Rattle.hc_records.specs.declared.limits.TheConstants.{TASKS};
 ghost use Rattle.hc_events.specs.Steps.{answer_to, entries_after};
@@ -7,26 +7,26 @@ ghost use Rattle.hc_c.specs.SeatEnds.{has_seat_from};
 ghost use Rattle.hc_c.specs.TakenPosts.{TakesAll, TakesEnd, TakesFrom, TakesPosts, posting_of, is_posted};
 ghost use Rattle.hc_c.specs.declared.numbers.TheConstants.{BUSY};
 
-use crate::handle::Handle;
+use crate::handle::{Handle, with_line};
 use crate::numbers::DONE;
 use crate::seat::ends::OwnerEnd;
 use hc_core::keeping::Core;
 use hc_mail::post::TaskPost;
 use hc_records::limits::TASKS;
 
-/// The tasks whose seats had a post that was taken, as C gets them: bit t is task t's.
+/// The tasks whose post was taken, in C: bit t stands for task t.
 #[repr(C)]
 #[derive(Clone, Copy)]
 pub struct TakenPosts {
-    /// It was accepted.
+    /// The tasks whose post was accepted.
     accepted: u8,
-    /// It was refused, and left nothing.
+    /// The tasks whose post was refused, which changed nothing.
     refused: u8,
     /// 0.
     reserved: [u8; 6],
 }
 
-/// Hands the core a task's post, and returns whether it was accepted.
+/// Hands a task's post to the core, and returns whether it was accepted.
 fn is_accepted(core: &mut Core, task: u8, post: &TaskPost) -> bool
     ensures core { core.new ≡ record core.old { history = entries_after core.old.history (posting_of task post.now) } }
     ensures answer { is_posted (answer_to core.old.history (posting_of task post.now)) ≡ result }
@@ -37,8 +37,8 @@ fn is_accepted(core: &mut Core, task: u8, post: &TaskPost) -> bool
     }
 }
 
-/// Hands the core the newest post of a task's seat, if it has one that was not taken: whether it was accepted, and whether it was
-/// refused.
+/// Hands the newest post of a task's seat to the core, unless it was taken before. Returns whether it was accepted, and whether
+/// it was refused.
 fn take_newest(core: &mut Core, task: u8, end: &mut OwnerEnd) -> (bool, bool)
     ensures { TakesFrom task core.old core.new end.old end.new result }
 {
@@ -50,7 +50,7 @@ fn take_newest(core: &mut Core, task: u8, end: &mut OwnerEnd) -> (bool, bool)
     (false, false)
 }
 
-/// Hands the core the newest post of a task's seat, if it has one.
+/// Hands the newest post of a task's seat to the core, if the task has a seat and the seat a post that waits.
 fn take_end(core: &mut Core, task: u8, end: &mut Option<OwnerEnd>) -> (bool, bool)
     ensures { TakesEnd task core.old core.new end.old end.new result }
 {
@@ -60,8 +60,8 @@ fn take_end(core: &mut Core, task: u8, end: &mut Option<OwnerEnd>) -> (bool, boo
     }
 }
 
-/// Hands the core the newest post of each task's seat from this number on; no task after so many has one. Returns whose were
-/// accepted and whose refused. There are eight, so deep is this recursion.
+/// Hands the newest post of each task's seat from a number on to the core; tasks beyond the list have no seat. Returns the
+/// tasks whose posts were accepted, and those whose were refused. There are at most eight, which bounds the recursion.
 fn take_all(core: &mut Core, task: u8, count: u8, ends: &mut [Option<OwnerEnd>]) -> (u8, u8)
     requires tasks { task + length ends.old ≤ TASKS }
     requires none { has_seat_from count ends.old ≡ false }
@@ -83,10 +83,10 @@ fn take_all(core: &mut Core, task: u8, count: u8, ends: &mut [Option<OwnerEnd>])
     )
 }
 
-/// Takes the post that waits of each task's seat, the newest one, and hands it to the core as `zangjulf_post` does, task 0's first.
-/// A post that was made before the last edit that changed its task is refused, and leaves nothing. What is posted meanwhile may be
-/// left for the next call. It waits for nobody and allocates nothing. Returns `DONE`, and `taken` says which tasks' posts were
-/// accepted and which refused. It fails with one of these, and `taken` is as it was:
+/// Takes the newest post of each task's seat that waits, and hands it to the core as `zangjulf_post` does, task 0's first. A
+/// post made before the last edit that changed its task is refused, and changes nothing. A post that is made during this call
+/// may be left for the next one. It allocates nothing and waits for nobody. Returns `DONE`, and `taken` says which tasks' posts
+/// were accepted and which refused. Fails with one of these; then `taken` is unchanged:
 ///
 /// - `CLOSED` or `MISUSED`: no line is open, or the handle was never zeroed.
 /// - `BUSY`: another call with the handle runs.
@@ -97,16 +97,13 @@ pub extern "C" fn zangjulf_take_posts(handle: &mut Handle, taken: &mut TakenPost
     ensures unchanged { result ≢ DONE → HoldsAsBefore handle.old handle.new × (taken.new ≡ taken.old) }
     ensures closed { handle.old.holding.value ≡ None → result ≡ no_line_number handle.old.mark }
 {
-    let Some(entered) = handle.enter() else {
-        return handle.refusal();
-    };
-    let own = handle.holding.line_mut();
-    let (accepted, refused) = take_all(&mut own.core, 0, own.ends.used, &mut own.ends.by_task);
-    *taken = TakenPosts {
-        accepted,
-        refused,
-        reserved: [0; 6],
-    };
-    own.calls.end(entered);
-    DONE
+    with_line!(handle, |own| {
+        let (accepted, refused) = take_all(&mut own.core, 0, own.ends.used, &mut own.ends.by_task);
+        *taken = TakenPosts {
+            accepted,
+            refused,
+            reserved: [0; 6],
+        };
+        DONE
+    })
 }

@@ -1,4 +1,4 @@
-//! A task's thread looks at the newest image of its seat.
+//! Views of a task's thread: the newest image of its seat, and outputs to begin with.
 ghost use Rattle.std.specs.Prelude.{◌≡◌, ◌≢◌, ◌+◌, ◌*◌, ◌^◌, ◌<◌, ◌≤◌, ◌++◌, if◌then◌else◌, IfSome, None, ℕ, Option, drop, is_some, length, map};
 ghost use Rattle.hc_records.specs.declared.limits.TheConstants.{MOST_DATAGRAMS};
 ghost use Rattle.hc_mail.specs.Contents.{counted};
@@ -16,31 +16,31 @@ use crate::widths::{in_16_bits, in_32_bits};
 use hc_mail::image::{LineState, TaskImage};
 use hc_mail::post::TaskPost;
 
-/// An image that a seat views, as C gets it.
+/// The image that a seat views, in C.
 #[repr(C)]
 #[derive(Clone, Copy)]
 pub struct SeatView {
-    /// How many images the seat was shown, this one among them.
+    /// The number of images that the seat was shown, this one included.
     showing: u64,
     /// The first serial of the task's last sending, 0 before one.
     first_serial: u64,
-    /// The number of the seat's post that was taken last when the image was shown, 0 before one.
+    /// The number of the seat's post that was taken last when the image was shown, 0 before the first.
     taken: u64,
     /// The line's epoch when the image was shown.
     epoch: u32,
-    /// The task's epoch when the image was shown: the epoch of the last edit that had changed the task, 0 if none had.
+    /// The epoch of the last edit that had changed the task when the image was shown, 0 if none had.
     task_epoch: u32,
-    /// The bytes of the task's image, at most 23,776.
+    /// The size of the task's image in bytes, at most 23,776.
     size: u32,
     /// The bytes of the task's outputs, which come first.
     outputs: u32,
-    /// The task's datagrams, at most 16.
+    /// The number of the task's datagrams, at most 16.
     datagrams: u16,
     /// Bit d is 1 if datagram d has data.
     has: u16,
-    /// How far the data answer the task's last sending.
+    /// `COMPLETE`, `INCOMPLETE` or `NO_DATA`: how far the data answer the task's last sending.
     state: u8,
-    /// What had become of the line and the seat.
+    /// The state of the line and the seat when the image was shown.
     line: u8,
     /// 1 if the post that was taken last was refused.
     is_refused: u8,
@@ -48,7 +48,7 @@ pub struct SeatView {
     reserved: u8,
 }
 
-/// Puts bytes at the front of a slice.
+/// Writes bytes to the front of a slice.
 fn put_front(bytes: &[u8], out: &mut [u8])
     requires { length bytes.now ≤ length out.old }
     ensures { out.new ≡ bytes.now ++ drop (length bytes.now) out.old }
@@ -56,7 +56,7 @@ fn put_front(bytes: &[u8], out: &mut [u8])
     out[..bytes.len()].copy_from_slice(bytes);
 }
 
-/// The bits of some datagrams, and one more bit if it is set.
+/// Returns the bits of some datagrams with one more bit, if that is set.
 fn with_bit(has: u32, bit: u32, is_set: bool) -> u32
     requires { has + bit ≤ 65536 }
     ensures { result ≡ has + (if is_set then bit else 0) }
@@ -64,8 +64,8 @@ fn with_bit(has: u32, bit: u32, is_set: bool) -> u32
     if is_set { has + bit } else { has }
 }
 
-/// Gives the serial of each datagram, 0 where it has no data, as many as there is room for, and adds the bits of those that have
-/// data to those of the datagrams before; `bit` is the first one's. A task has 16 datagrams at most, so deep is this recursion.
+/// Writes the serial of each datagram, 0 for one without data, as many as fit, and adds the bits of those with data to those
+/// before; `bit` is the first one's. A task has at most 16 datagrams, which bounds the recursion.
 fn put_serials(serials: &[Option<u64>], out: &mut [u64], bit: u32, has: u32) -> u32
     requires few { bit * 2 ^ length serials.now ≤ 65536 }
     requires before { has < bit }
@@ -86,8 +86,8 @@ fn put_serials(serials: &[Option<u64>], out: &mut [u64], bit: u32, has: u32) -> 
     }
 }
 
-/// Gives the serial of each datagram, as many as there is room for, and returns which have data: the first one's bit is the least
-/// significant.
+/// Writes the serial of each datagram, as many as fit, and returns a bit for each, 1 if it has data; the first one's bit is the
+/// least significant.
 fn give_serials(serials: &[Option<u64>], out: &mut [u64]) -> u16
     requires { length serials.now ≤ MOST_DATAGRAMS }
     ensures serials { out.new ≡ put_first (serials_answered serials.now) out.old }
@@ -96,7 +96,7 @@ fn give_serials(serials: &[Option<u64>], out: &mut [u64]) -> u16
     put_serials(serials, out, 1, 0) as u16
 }
 
-/// What became of the line, as C gets it.
+/// Returns the state of a line, in C.
 fn line_number(line: LineState) -> u8
     ensures { result ≡ line_number line }
 {
@@ -107,7 +107,7 @@ fn line_number(line: LineState) -> u8
     }
 }
 
-/// An image, as C gets it; `showing` is its number, and `has` the bits of the datagrams with data.
+/// Returns the C form of an image; `showing` is its number, and `has` the bits of the datagrams with data.
 fn view_of(showing: u64, has: u16, image: &TaskImage) -> SeatView
     requires { image.now.room ≡ image_room }
     ensures { (shown : ℕ) → showing ≡ counted shown → has ≡ bit_mask (map is_some image.now.serials) → result ≡ view_of shown image.now }
@@ -131,7 +131,7 @@ fn view_of(showing: u64, has: u16, image: &TaskImage) -> SeatView
     }
 }
 
-/// Gives an image with its number: `DONE`, or `ROOM` if `out` is too short.
+/// Writes an image with its number. Returns `DONE`, or `ROOM` if `out` is too short.
 fn give_image(
     showing: u64,
     image: &TaskImage,
@@ -155,14 +155,14 @@ fn give_image(
     DONE
 }
 
-/// Whether a post was made for an epoch from an image's task epoch on, with as many bytes as the image has output bytes.
+/// Returns whether a post was made for an epoch from an image's task epoch on, with as many bytes as the image has outputs.
 fn fits_image(image: &TaskImage, post: &TaskPost) -> bool
     ensures { result ≡ fits_image image.now post.now }
 {
     image.head().task_epoch <= post.epoch() && post.bytes().len() == image.outputs().len()
 }
 
-/// Gives outputs: `DONE`, or `ROOM` if `out` is too short.
+/// Writes outputs. Returns `DONE`, or `ROOM` if `out` is too short.
 fn give_bytes(outputs: &[u8], out: &mut [u8]) -> u8
     ensures number { result ≡ fit_number (length outputs.now) (length out.old) }
     ensures bytes { result ≡ DONE → out.new ≡ outputs.now ++ drop (length outputs.now) out.old }
@@ -175,7 +175,7 @@ fn give_bytes(outputs: &[u8], out: &mut [u8]) -> u8
     DONE
 }
 
-/// The outputs to begin with: those of the seat's own last post if that fits the image, else the image's.
+/// Returns the outputs to begin with: those of the seat's own last post if it fits the image, otherwise the image's.
 fn outputs_beside<'a>(image: &'a TaskImage, posts: &'a Option<TaskPosts>) -> &'a [u8]
     ensures { result.now ≡ outputs_beside image.now posts.now }
 {
@@ -185,7 +185,7 @@ fn outputs_beside<'a>(image: &'a TaskImage, posts: &'a Option<TaskPosts>) -> &'a
     }
 }
 
-/// Gives the outputs to begin with: `DONE`, or `ROOM` if `out` is too short.
+/// Writes the outputs to begin with. Returns `DONE`, or `ROOM` if `out` is too short.
 fn give_begun(end: &TaskEnd, out: &mut [u8]) -> u8
     ensures number { result ≡ fit_number (length (outputs_begun end.now)) (length out.old) }
     ensures outputs { result ≡ DONE → out.new ≡ outputs_begun end.now ++ drop (length (outputs_begun end.now)) out.old }
@@ -194,14 +194,17 @@ fn give_begun(end: &TaskEnd, out: &mut [u8]) -> u8
     give_bytes(outputs_beside(end.images.content(), &end.posts), out)
 }
 
-/// Takes the newest image that was shown, or keeps the viewed one if none is newer: never an older one. It waits for nobody and
-/// allocates nothing. Returns `DONE`: the image's bytes are at the front of `out`, each datagram's at its offset, zeros where it has
-/// no data; `serials` has of each datagram, in their order, the serial of the sending that its data answer, 0 where it has none, as
-/// many as there is room for; and `view` gives the rest. It fails with one of these, and `out`, `serials` and `view` are as they
-/// were:
+/// Takes the newest image that the seat was shown. If none is newer than the viewed one, that stays; an older one is never
+/// taken. It allocates nothing and waits for nobody. Returns `DONE`.
+///
+/// `out` begins with the image: the data of each datagram at its offset, and zeros for one without data. `serials` begins with
+/// a serial for each datagram, in their order and as many as fit: that of the frame which its data answer, 0 if it has none.
+/// `view` has the rest.
+///
+/// Fails with one of these; then `out`, `serials` and `view` are unchanged:
 ///
 /// - `CLOSED` or `MISUSED`: the seat is closed, or its handle was never zeroed.
-/// - `ROOM`: `out` is shorter than the image, which 23,776 bytes never are. The image is viewed nevertheless.
+/// - `ROOM`: `out` is shorter than the image. 23,776 bytes are always enough. The image counts as viewed nevertheless.
 #[unsafe(no_mangle)]
 pub extern "C" fn zangjulf_seat_view(
     seat: &mut SeatHandle,
@@ -231,9 +234,10 @@ pub extern "C" fn zangjulf_seat_view(
     )
 }
 
-/// Gives the outputs to begin with: the seat's own last post, if it was made for an epoch from the viewed image's task epoch on and
-/// has as many bytes as the image has output bytes, and otherwise the image's, as they were to be sent when it was shown. It
-/// allocates nothing. Returns `DONE`: they are at the front of `out`. It fails with one of these, and `out` is as it was:
+/// Reads the outputs to begin with. They are those of the seat's own last post, if it was made for an epoch from the viewed
+/// image's task epoch on and has as many bytes as the image has outputs. Otherwise they are the image's, as they were to be
+/// sent when it was shown. It allocates nothing. Returns `DONE`: the outputs are at the front of `out`. Fails with one of
+/// these; then `out` is unchanged:
 ///
 /// - `CLOSED` or `MISUSED`: the seat is closed, or its handle was never zeroed.
 /// - `ROOM`: `out` is shorter.

@@ -106,9 +106,6 @@ among-at : (slaves front own after_it : List (List Area)) (first i : ℕ) → sl
     areas_of_rank slaves (first + i) ≡ slice_index_or own i []
 among-at slaves front own after_it first i is begins within = search (rules, index-front)
 
-pub before-at : (it : EditedLine) → IsEditedLine it → (rank i : ℕ) → rank ≡ it.change.first + i → i < length it.change.areas_before → areas_of_rank (areas_by_rank it.old) rank ≡ slice_index_or it.change.areas_before i []
-before-at it is rank i at within = search (rules, among-at)
-
 pub after-at : (it : EditedLine) → IsEditedLine it → (rank i : ℕ) → rank ≡ it.change.first + i → i < length it.change.areas_before → areas_of_rank (areas_by_rank it.new) rank ≡ slice_index_or it.change.areas_after i []
 after-at it is rank i at within =
     ap (areas_of_rank (areas_by_rank it.new)) at

@@ -1,15 +1,15 @@
 -- Where no task needs more than 16 datagrams, each area of a project's line is in one of them.
 use Rattle.std.proofs.Common.{◌≡◌, ℕ, ◌+◌, ◌≤◌, false, None, arith, rules}
-use Rattle.std.specs.Prelude.{All, nat_lt}
+use Rattle.std.specs.Prelude.{All, filter, nat_lt}
 use Rattle.std.proofs.lemmas.Bool.{ltb-false}
-use Rattle.std.proofs.lemmas.List.Elements.{All-contains}
+use Rattle.std.proofs.lemmas.List.Elements.{All-contains, All-filter, All-map}
 use Rattle.hc_records.specs.declared.limits.TheConstants.{MOST_DATAGRAMS}
 use Rattle.hc_records.specs.Edits.{over_limit_task}
 use Rattle.hc_records.specs.Image.{datagram_count, task_places, tasks}
 use Rattle.hc_records.specs.Keys.{same_key}
 use Rattle.hc_records.specs.Laws.{LiesInside}
 use Rattle.hc_records.specs.Limits.{IsAreaInside}
-use Rattle.hc_records.specs.Line.{State, groups_of, line}
+use Rattle.hc_records.specs.Line.{State, groups_of, line, line_from}
 use Rattle.hc_records.specs.Packing.{Placed, opening}
 use Rattle.hc_records.specs.Project.{lowest_fault}
 use Rattle.hc_records.specs.TaskList.{task_list}
@@ -20,7 +20,9 @@ use Rattle.hc_records.proofs.lemmas.KeyOrder.{same_key-same}
 use Rattle.hc_records.proofs.lemmas.Packable.{project-packable}
 use Rattle.hc_places.specs.Found.{SuitsPlace}
 use Rattle.hc_places.proofs.lemmas.Rows.{task-suits}
-use Rattle.hc_changes.specs.MaybeMovedAreas.{LineArea, maybe_moved_of, line_area_key, line_areas}
+use Rattle.hc_cuts.specs.LineChange.{changes}
+use Rattle.hc_changes.specs.EditedLine.{EditedLine, IsEditedLine, maybe_moved_areas_of}
+use Rattle.hc_changes.specs.MaybeMovedAreas.{LineArea, is_maybe_moved, line_area_key, line_areas, maybe_moved_of}
 use Rattle.hc_changes.specs.Rows.{IsInside}
 use Rattle.hc_changes.proofs.lemmas.ByRank.{area-named}
 use Rattle.hc_changes.proofs.lemmas.Lists.{found-among}
@@ -44,8 +46,16 @@ is_placed-inside state none fits found of placed is =
     let bits = suits.bits in
     record { task = inside.task; datagram = omega (arith, few, number); inside = omega (arith, lies, bits); offers = suits.offers }
 
-pub maybe_moved_areas-inside : (state : State) → lowest_fault (groups_of state.groups) ≡ None → over_limit_task (line state) ≡ None
+areas-inside : (state : State) → lowest_fault (groups_of state.groups) ≡ None → over_limit_task (line state) ≡ None
     → All (λ found. IsInside (maybe_moved_of (line state) found)) (line_areas (line state))
-maybe_moved_areas-inside state none fits =
+areas-inside state none fits =
     all-contained (λ (found : LineArea). IsInside (maybe_moved_of (line state) found)) (line_areas (line state))
     (λ found at. is_placed-inside state none fits found (line-area (line state) found at))
+
+-- so is each candidate of an edit
+pub candidates-inside : (it : EditedLine) → IsEditedLine it → over_limit_task (line_from 1 it.new) ≡ None → All IsInside (maybe_moved_areas_of it)
+candidates-inside it is fits =
+    let new = line_from 1 it.new in
+    let test = is_maybe_moved (changes it.change) (line_from 1 it.old) new in
+    All-map IsInside (maybe_moved_of new) (filter test (line_areas new))
+    (All-filter test (λ found. IsInside (maybe_moved_of new found)) (line_areas new) (areas-inside (record { groups = it.new; epoch = 0 }) is.is_project fits))

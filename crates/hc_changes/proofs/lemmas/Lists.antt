@@ -1,8 +1,8 @@
 -- What a list contains, what is found in it, and what a `flat_map` over it needs of its elements.
-use Rattle.std.proofs.Common.{◌≡◌, zero, suc, Bool, true, false, cond, List, [], ◌∷◌, ◌++◌, Contains, refl, sym, ap, subst, ◌∙◌, ⊎_elim, arith, rules}
+use Rattle.std.proofs.Common.{◌≡◌, ℕ, ◌+◌, ◌<◌, zero, suc, Bool, true, false, cond, List, [], ◌∷◌, ◌++◌, Contains, append_assoc, drop, get_or, length, refl, sym, ap, subst, ◌∙◌, ⊎_elim, arith, rules}
 use Rattle.std.specs.Prelude.{All, AllPairs, Option, Some, filter, find, map}
 use Rattle.std.specs.List.{flat_map}
-use Rattle.std.proofs.lemmas.List.{map-append}
+use Rattle.std.proofs.lemmas.List.{drop_more, map-append}
 use Rattle.std.proofs.lemmas.List.Elements.{All-contains, All-head, All-tail, Contains-append_cases, Contains-append_left, Contains-append_right, filter-append}
 use Rattle.hc_records.proofs.lemmas.Lists.{AllPairs-head, AllPairs-tail}
 
@@ -24,6 +24,12 @@ filter-flat_map test f (x ∷ xs) = search (rules, filter-append, filter-flat_ma
 pub map-flat_map : {X Y Z : Type 0} (g : Y → Z) (f : X → List Y) (xs : List X) → map g (flat_map f xs) ≡ flat_map (λ x. map g (f x)) xs
 map-flat_map g f [] = refl
 map-flat_map g f (x ∷ xs) = map-append g (f x) (flat_map f xs) ∙ ap (λ (ys : List _). map g (f x) ++ ys) (map-flat_map g f xs)
+
+-- where each element of a list that is gone along adds what it gives
+
+pub all-added : {X Y : Type 0} (f : X → List Y) (xs : List X) (i : ℕ) (x : X) (had has all : List Y) → i < length xs → x ≡ get_or xs i x → has ≡ had ++ f x
+    → had ++ flat_map f (drop i xs) ≡ all → has ++ flat_map f (drop (i + 1) xs) ≡ all
+all-added f xs i x had has all within is adds so_far = search (rules, append_assoc, drop_more)
 
 -- what a list contains
 

@@ -1,15 +1,15 @@
-//! The events of the core: the conductor's own, which shows and posts nothing.
+//! Events of the core, as the conductor takes them. They publish and post nothing.
 ghost use Rattle.std.specs.Prelude.{◌≡◌, ◌≢◌, ◌∷◌, Err, IfErr, IfOk, IfSome, None, OnErr, OnOk, Some, length};
 ghost use Rattle.hc_records.specs.Lists.{lowest};
 ghost use Rattle.hc_core.specs.Early.{ShowsEarly, early_ready_faults};
 ghost use Rattle.hc_core.specs.Proposed.{IsProposal};
-ghost use Rattle.hc_core.specs.Written.{HoldsWrite, HoldsWrites};
-ghost use Rattle.hc_events.specs.Calls.{AreSentTogether, MayAnswer, arena_sent, ready_into_faults, send_into_faults, write_all_into_faults, write_into_faults};
+ghost use Rattle.hc_core.specs.Written.{HoldsFurther, HoldsWrite, HoldsWrites};
+ghost use Rattle.hc_events.specs.Calls.{AreSentTogether, MayAnswer, arena_sent, further_into_faults, ready_into_faults, send_into_faults, write_all_into_faults, write_into_faults};
 ghost use Rattle.hc_events.specs.declared.faults.CoreFault.TheVariants.{Memory};
 ghost use Rattle.hc_events.specs.Entries.{Forgot, Unplugged};
 ghost use Rattle.hc_events.specs.Owed.{owed_blocks};
 ghost use Rattle.hc_events.specs.Ready.{with_cleared};
-ghost use Rattle.hc_events.specs.Steps.{Arrives, Edits, SendsReady, SendsTasks, SendsWrite, SendsWrites, clear_faults, entries_after, forget_faults, proposal, unplug_faults, with_sent};
+ghost use Rattle.hc_events.specs.Steps.{Arrives, Edits, SendsFurther, SendsReady, SendsTasks, SendsWrite, SendsWrites, clear_faults, entries_after, forget_faults, proposal, unplug_faults, with_sent};
 ghost use Rattle.hc_sendings.specs.Refusals.{early_faults};
 ghost use Rattle.hc_conductor.specs.Conducting.{IsConducting};
 ghost use Rattle.hc_conductor.specs.Mastering.{SameTasks, master_history};
@@ -24,7 +24,7 @@ use hc_records::edit::Edit;
 use std::alloc::Global;
 
 impl Master {
-    /// The core, for its readers: the plan by `Core::plan`, a task's image by `Core::read`, the next frames by
+    /// Returns the core for reading: the plan by `Core::plan`, a task's image by `Core::read`, the next frames by
     /// `Core::propose`, `Core::preview` and `Core::fill`.
     pub fn core(&self) -> &Core
         ensures core { result.now ≡ self.now.conductor.core }
@@ -33,8 +33,8 @@ impl Master {
         self.conductor.core()
     }
 
-    /// An edit of the line, answered and recorded as the core's `step` says: `Refused` gives the fault, 1 to 13, or
-    /// `Memory`, and then nothing changed. Views show it from the next publishing on.
+    /// Edits the line. The answer and the record are those of the core's `step`. With `Refused`, which has the fault, 1 to 13,
+    /// or `Memory`, nothing has changed. Views show the edit after the next publishing.
     pub fn edit(&mut self, alloc: Global, edit: &Edit) -> Answer
         ensures answer { MayAnswer (master_history self.old) (Edits edit.now) result (master_history self.new) }
         ensures early { ShowsEarly (master_history self.old) (Edits edit.now) result }
@@ -43,8 +43,8 @@ impl Master {
         self.conductor.edit(alloc, edit)
     }
 
-    /// A frame arrived, any bytes, answered and recorded as the core's `step` says: `Refused` gives the fault, 20 to
-    /// 27, or `Memory`, and then nothing changed. Views show what it brought from the next publishing on.
+    /// Takes an arriving frame, any bytes. The answer and the record are those of the core's `step`. With `Refused`, which has
+    /// the fault, 20 to 27, or `Memory`, nothing has changed. Views show the new data after the next publishing.
     pub fn arrive(&mut self, alloc: Global, bytes: &[u8]) -> Answer
         ensures answer { MayAnswer (master_history self.old) (Arrives bytes.now) result (master_history self.new) }
         ensures early { ShowsEarly (master_history self.old) (Arrives bytes.now) result }
@@ -53,9 +53,12 @@ impl Master {
         self.conductor.arrive(alloc, bytes)
     }
 
-    /// The first owed register block is sent: its frame is at the front of `out`, and its size in bytes is
-    /// answered. `NothingOwed` where no block is owed; `SerialsSpent` where no serial is left; `Room` with the size
-    /// needed where `out` is shorter; and of several the first of these. Then nothing changed. It takes no memory.
+    /// Sends the first owed register block in a frame of its own, and returns the frame's length in bytes. The frame is at the
+    /// front of `out`. It allocates nothing. Fails with the first of these; then nothing has changed:
+    ///
+    /// - `NothingOwed`: no block is owed.
+    /// - `SerialsSpent`: no serial is left.
+    /// - `Room`: `out` is too short, with the length needed in bytes.
     pub fn next_write(&mut self, out: &mut [u8]) -> Result<usize, CoreFault>
         ensures written { IfOk result (HoldsWrite (master_history self.old) out.old out.new) }
         ensures accepted { OnOk result (lowest (write_into_faults (master_history self.old) (length out.old)) ≡ None) }
@@ -68,9 +71,9 @@ impl Master {
         self.conductor.next_write(out)
     }
 
-    /// The first owed register blocks are sent in one frame, in the order in which they are owed: as many as the frame holds,
-    /// whatever the length of `out`. The frame is put at the front of `out`; its size and the number of its blocks, at most
-    /// 74, are answered. The faults are those of the conductor's `next_writes`; then nothing changed. It takes no memory.
+    /// Sends the first owed register blocks in one frame, in the order in which they are owed: as many as a frame holds,
+    /// whatever the length of `out`. Returns the frame's length and the number of its blocks, at most 74; the frame is at the
+    /// front of `out`. It allocates nothing. The faults are those of the conductor's `next_writes`; then nothing has changed.
     pub fn next_writes(&mut self, out: &mut [u8]) -> Result<SentWrites, CoreFault>
         ensures written { IfOk result (HoldsWrites (master_history self.old) out.old out.new) }
         ensures accepted { OnOk result (lowest (write_all_into_faults (master_history self.old) (length out.old)) ≡ None) }
@@ -83,9 +86,28 @@ impl Master {
         self.conductor.next_writes(out)
     }
 
-    /// The slave with this station address may have lost its registers: all its blocks are owed, as the core's
-    /// `forget` says, and a write to it that was sent before confirms nothing. `UnknownStation` where no declared
-    /// slave has the address; `Absent` where that slave isn't in the line. Then nothing changed. It takes no memory.
+    /// Sends the first owed register blocks that are not under way in one frame, in the order in which they are owed: as many
+    /// as a frame holds, whatever the length of `out`. Returns the frame's length and the number of its blocks, at most 74; the
+    /// frame is at the front of `out`. It allocates only if more such frames are under way than ever before, and more than two.
+    /// The faults are those of the conductor's `next_further`; then nothing has changed.
+    pub fn next_further(&mut self, alloc: Global, out: &mut [u8]) -> Result<SentWrites, CoreFault>
+        ensures written { IfOk result (HoldsFurther (master_history self.old) out.old out.new) }
+        ensures accepted { OnOk result (lowest (further_into_faults (master_history self.old) (length out.old)) ≡ None) }
+        ensures entries { OnOk result (master_history self.new ≡ entries_after (master_history self.old) SendsFurther) }
+        ensures tasks { SameTasks self.old self.new }
+        ensures refused { IfErr result (λ fault. fault ≢ Memory → lowest (further_into_faults (master_history self.old) (length out.old)) ≡ Some fault) }
+        ensures early { IfSome (lowest (further_into_faults (master_history self.old) (length out.old))) (λ fault. result ≡ Err fault) }
+        ensures unchanged { OnErr result (self.new ≡ self.old) }
+        ensures untouched { OnErr result (out.new ≡ out.old) }
+    {
+        self.conductor.next_further(alloc, out)
+    }
+
+    /// Notes that the slave with a station address may have lost its registers: all its blocks are owed, and answers to earlier
+    /// writes confirm nothing (the core's `forget`). It allocates nothing. Fails with one of these; then nothing has changed:
+    ///
+    /// - `UnknownStation`: no declared slave has the address.
+    /// - `Absent`: the slave is not in the line.
     pub fn forget(&mut self, station: u16) -> Result<(), CoreFault>
         ensures accepted { OnOk result (lowest (forget_faults (master_history self.old) station) ≡ None) }
         ensures entries { OnOk result (master_history self.new ≡ Forgot station ∷ master_history self.old) }
@@ -96,9 +118,9 @@ impl Master {
         self.conductor.forget(station)
     }
 
-    /// Tasks are sent, 1 to 8 distinct ones: the frames are in the arena one after another, each of its own size,
-    /// and are answered in that order. After them the arena is as it was. The faults are those of the conductor's
-    /// `send`; then nothing is sent, nothing changed, and the arena is as it was.
+    /// Sends 1 to 8 distinct tasks. The frames stand in the arena one after another, each of its own length, and are returned
+    /// in that order. The rest of the arena is unchanged. The faults are those of the conductor's `send`; then nothing is sent,
+    /// nothing has changed, and the arena is unchanged.
     pub fn send(
         &mut self,
         alloc: Global,
@@ -119,8 +141,8 @@ impl Master {
         self.conductor.send(alloc, tasks, arena)
     }
 
-    /// The frames of the present proposal, as the core's `propose` gave it, are sent: for who makes something of them
-    /// before they are. It takes no memory.
+    /// Sends the frames of the present proposal, as the core's `propose` returned it, for callers that fill them first. It
+    /// allocates nothing.
     pub fn commit(&mut self, frames: &[Sending])
         requires { IsProposal (master_history self.old) frames.now }
         ensures entries { master_history self.new ≡ with_sent (master_history self.old) frames.now }
@@ -129,9 +151,9 @@ impl Master {
         self.conductor.commit(frames);
     }
 
-    /// Sends 1 to 8 distinct ready tasks, while register blocks of other tasks may be owed: the frames are in the arena one after
-    /// another, each of its own size, and are returned in that order. After them the arena is as it was. The faults are those of
-    /// the conductor's `send_ready`; after one nothing is sent, nothing has changed, and the arena is as it was.
+    /// Sends 1 to 8 distinct ready tasks, while register blocks of other tasks may be owed. The frames stand in the arena one
+    /// after another, each of its own length, and are returned in that order. The rest of the arena is unchanged. The faults
+    /// are those of the conductor's `send_ready`; then nothing is sent, nothing has changed, and the arena is unchanged.
     pub fn send_ready(
         &mut self,
         alloc: Global,
@@ -152,9 +174,9 @@ impl Master {
         self.conductor.send_ready(alloc, tasks, arena)
     }
 
-    /// The FMMUs of the declared slave with this station address are zero now, and no write of them that was sent earlier will
-    /// still pass it, as the core's `cleared` says. A slave of the line is forgotten too. Fails with
-    /// `UnknownStation` if no declared slave has the address; nothing has changed then. It needs no allocation.
+    /// Notes that the FMMUs of the declared slave with a station address are zeros, and that no write sent to it earlier can
+    /// still reach it (the core's `cleared`). The blocks of a slave in the line are owed again. It allocates nothing. Fails
+    /// with `UnknownStation` if no declared slave has the address; then nothing has changed.
     pub fn cleared(&mut self, station: u16) -> Result<(), CoreFault>
         ensures accepted { OnOk result (lowest (clear_faults (master_history self.old) station) ≡ None) }
         ensures entries { OnOk result (master_history self.new ≡ with_cleared (master_history self.old) station) }
@@ -165,9 +187,11 @@ impl Master {
         self.conductor.cleared(station)
     }
 
-    /// The declared slave with this station address, which is outside the line, is off the wire, as the core's `unplugged` says.
-    /// Fails with `UnknownStation` if no declared slave has the address, else with `AlreadyPresent`
-    /// if the slave is in the line; nothing has changed then. It needs no allocation.
+    /// Notes that the declared slave with a station address, outside the line, is off the wire (the core's `unplugged`). It
+    /// allocates nothing. Fails with the first of these; then nothing has changed:
+    ///
+    /// - `UnknownStation`: no declared slave has the address.
+    /// - `AlreadyPresent`: the slave is in the line.
     pub fn unplugged(&mut self, station: u16) -> Result<(), CoreFault>
         ensures accepted { OnOk result (lowest (unplug_faults (master_history self.old) station) ≡ None) }
         ensures entries { OnOk result (master_history self.new ≡ Unplugged station ∷ master_history self.old) }

@@ -1,4 +1,4 @@
-//! The seats learn what is published.
+//! Learning of what is published, for all seats.
 ghost use Rattle.std.specs.Prelude.{◌≡◌, length, map, replicate};
 ghost use mathlib.Core.List.{IsPrefix};
 ghost use Rattle.hc_conductor.specs.Conducting.{conductor_published};
@@ -8,7 +8,7 @@ ghost use Rattle.hc_conductor.specs.Learning.{CanLearn};
 use crate::conductor::Conductor;
 use crate::seat::TaskSeat;
 
-/// Each seat learns all that is published. The recursion is as deep as there are seats: eight at most.
+/// Makes each seat learn all that is published. There are at most eight, which bounds the recursion.
 pub(crate) fn learn_all(conductor: &Conductor, seats: &mut [TaskSeat])
     requires { CanLearn conductor.now seats.old }
     ensures known { map seat_known seats.new ≡ replicate (length seats.old) (conductor_published conductor.now) }

@@ -1,4 +1,4 @@
-//! What tasks post.
+//! Posts of tasks.
 ghost use Rattle.std.specs.Prelude.{◌≡◌, ◌≢◌, ◌<◌, ◌≤◌, [], ◌∷◌, ◌++◌, IfErr, IfOk, None, OnErr, OnOk, Some, false, length, replicate, slice_index_or, map, true};
 ghost use Rattle.hc_records.specs.declared.limits.TheConstants.{TASKS};
 ghost use Rattle.hc_publish.specs.ChangesSince.{IsLegal, epoch_shown, table_shown};
@@ -23,15 +23,15 @@ use hc_publish::publisher::Note;
 use hc_rings::POSTS_WAITING;
 use std::alloc::{AllocError, Global};
 
-/// A list of `count` zeros. `AllocError` if its memory is refused.
+/// Returns a list of `count` zeros. `AllocError` if an allocation fails.
 fn zeros(alloc: Global, count: usize) -> Result<Vec<u8>, AllocError>
     ensures { IfOk result (λ bytes. bytes.items ≡ replicate count 0) }
 {
     vec![in alloc; 0; count]
 }
 
-/// The bytes that a task posts in a view: its settings at their places, every other output 0. The first setting that is refused
-/// decides the error; `Memory` if a growth is refused.
+/// Returns the bytes that a task posts in a view: its settings at their places, and 0 for every other output. Fails with the
+/// reason of the first refused setting, or with `Memory` if an allocation fails.
 fn filled(
     alloc: Global,
     view: &TaskView,
@@ -52,8 +52,8 @@ fn filled(
     Ok(bytes)
 }
 
-/// The bytes that a task posts in what a note carries, and the seat, which has then viewed it. `NoEntry` if the seat gets no
-/// view; otherwise the errors of `filled`.
+/// Returns the bytes that a task posts in what a note carries, and the seat, which has then viewed it. Fails with `NoEntry` if
+/// the seat gets no view, and otherwise as `filled` does.
 fn fill(
     seat: TaskSeat,
     asked: (&Note, u8, &[Setting], Global),
@@ -95,7 +95,7 @@ fn post_bytes(seat: &mut TaskSeat, bytes: &[u8])
 }
 
 impl Master {
-    /// The bytes that a task, 0 to 7, posts in what is shown. Its seat has then viewed that. The errors are those of `fill`.
+    /// Returns the bytes that a task, 0 to 7, posts in what is shown, which its seat has then viewed. Fails as `fill` does.
     fn filled_for(
         &mut self,
         alloc: Global,
@@ -117,8 +117,8 @@ impl Master {
         )
     }
 
-    /// Posts the bytes of a task, 0 to 7, for the epoch that its seat viewed last. `NoSpare` exactly if four posts of the task
-    /// wait; then nothing is posted.
+    /// Posts the bytes of a task, 0 to 7, for the epoch that its seat viewed last. Fails with `NoSpare` exactly if four posts
+    /// of the task wait; then nothing is posted.
     fn post_known(&mut self, task: u8, bytes: &[u8]) -> Result<(), PostRefusal>
         requires task { task < TASKS }
         requires viewed { slice_index_or (map outputs_size self.old.seats) task 0 ≡ length bytes.now }
@@ -137,12 +137,15 @@ impl Master {
         Ok(())
     }
 
-    /// A task, 0 to 7, posts values for its output variables, at their places in what is shown and for the epoch that is
-    /// shown; every other output is 0, and of a variable that is named twice the last value is posted. The first value
-    /// that is refused decides: `NoSuchVariable` where its variable has no place in the line (0 is no variable's number),
-    /// `IsInput`, `OtherTask`, `TooWide` where it has too few bits; else `NoSpare` exactly where four posts of the task
-    /// wait. `NoEntry` where the seat was given no view, `Memory` where a growth was refused. Then nothing is posted. It
-    /// waits for nobody.
+    /// Posts values for output variables of a task, 0 to 7, at their places in what is shown and for the epoch that is shown.
+    /// Every other output is 0. If a variable is named twice its last value is posted. It waits for nobody. Fails with one of
+    /// these; then nothing is posted:
+    ///
+    /// - For the first refused value the first of: `NoSuchVariable`, the line has no place for it (0 is no variable's number);
+    ///   `IsInput`; `OtherTask`; `TooWide`, it has too few bits.
+    /// - `NoSpare`: exactly if no value is refused and four posts of the task wait.
+    /// - `NoEntry`: the seat gets no view.
+    /// - `Memory`: an allocation failed.
     pub fn post(&mut self, alloc: Global, task: u8, settings: &[Setting]) -> Result<(), PostRefusal>
         requires { task < TASKS }
         ensures posted { OnOk result (waiting self.new ≡ with_post task (post_shown (master_shown self.old) task settings.now) (waiting self.old)) }

@@ -1,4 +1,4 @@
-//! What the core's events changed goes to the tasks.
+//! Publishing to the tasks of this thread.
 ghost use Rattle.std.specs.Prelude.{◌≡◌, OnErr, OnOk};
 ghost use Rattle.hc_conductor.specs.Conducting.{PublishesAll};
 ghost use Rattle.hc_conductor.specs.Mastering.{master_history, master_shown, waiting};
@@ -9,10 +9,10 @@ use std::alloc::{AllocError, Global};
 use std::sync::Wait;
 
 impl Master {
-    /// Shows the tasks all that the core's events changed so far: it is published, and each seat learns it. After Ok
-    /// what is shown says all the record's updates, so the tasks' views show what the core's reads answer. `AllocError`
-    /// where a growth was refused: what is shown is then as it was, nothing is lost or reported twice, and a later call
-    /// goes on where this one stopped. It waits for nobody, since no view lives here.
+    /// Publishes all changes of the core's events so far, and each seat learns them. After `Ok` the published list gives all
+    /// updates of the core's record, so the tasks' views show what the core's reads return. `AllocError` if an allocation
+    /// fails: what is shown is unchanged, no change is lost or published twice, and the next call continues. It waits for
+    /// nobody, since no view lives in this thread.
     pub fn publish<R: Wait>(&mut self, rt: &R, alloc: Global) -> Result<(), AllocError>
         ensures record { master_history self.new ≡ master_history self.old }
         ensures waiting { waiting self.new ≡ waiting self.old }
@@ -24,7 +24,7 @@ impl Master {
         Ok(())
     }
 
-    /// Ends the master, its only end. It takes no memory. What waits is dropped.
+    /// Ends the master; it has no other end. It allocates nothing. Waiting posts and changes are dropped.
     pub fn finish<R: Wait>(self, rt: &R) {
         let Master {
             conductor,

@@ -1,13 +1,13 @@
-//! Why nothing is viewed, and why nothing is posted.
+//! Reasons for which nothing is viewed or posted.
 use std::alloc::AllocError;
 use thiserror::Error;
 
-/// The seat was given no view of what is published: no entry, which no run meets.
+/// The seat got no view of what is published: there is no entry. It never occurs in practice.
 #[derive(Clone, Copy, Debug, PartialEq, Eq, Error)]
 #[error("the seat was given no view")]
 pub struct NoEntry;
 
-/// Why a task's values aren't posted. Nothing is then posted.
+/// The reason for which a task's values are not posted.
 #[derive(Clone, Copy, Debug, PartialEq, Eq, Error)]
 pub enum PostRefusal {
     /// A variable has no place in the line that is shown.
@@ -25,10 +25,10 @@ pub enum PostRefusal {
     /// Four posts of the task wait.
     #[error("four posts of the task wait")]
     NoSpare,
-    /// The seat was given no view of what is published, which no run meets.
+    /// The seat got no view of what is published. It never occurs in practice.
     #[error("the seat was given no view")]
     NoEntry,
-    /// A growth was refused.
+    /// An allocation failed.
     #[error("out of memory")]
     Memory,
 }

@@ -1,4 +1,4 @@
-//! The values that a task posts, put where their variables are.
+//! Values that a task posts, written to the places of their variables.
 ghost use Rattle.std.specs.Prelude.{◌≡◌, ℕ, ◌+◌, ◌*◌, ◌^◌, ◌<◌, ◌≤◌, IfOk, None, OnOk, Some, length, nat_le};
 ghost use Rattle.std.specs.List.{fold};
 ghost use Rattle.hc_bits.specs.Bits.{AreBytes, bit_of};
@@ -13,24 +13,16 @@ use crate::view::TaskView;
 use hc_bits::put_bits;
 use hc_places::table::Place;
 use hc_records::records::{Dir, VarId};
+pub use hc_records::setting::Setting;
 
-/// A value for the output variable with a number.
-#[derive(Clone, Copy, Debug, PartialEq, Eq)]
-pub struct Setting {
-    /// The variable's number; 0 is no variable's.
-    pub variable: u32,
-    /// Its value.
-    pub value: u64,
-}
-
-/// The place of the variable with a number, if it has one in the view; 0 is no variable's number.
+/// Returns the place of the variable with a number, if the view has one; 0 is no variable's number.
 fn numbered_place(view: &TaskView, number: u32) -> Option<Place>
     ensures { result ≡ viewed_place (view_table view.now) number }
 {
     view.place(VarId::new(number)?)
 }
 
-/// Whether a value needs more than `bits` bits, at most 64.
+/// Returns whether a value needs more than `bits` bits, at most 64.
 fn is_too_wide(value: u64, bits: u8) -> bool
     requires { bits ≤ 64 }
     ensures { result ≡ nat_le (2 ^ bits) value }
@@ -38,8 +30,12 @@ fn is_too_wide(value: u64, bits: u8) -> bool
     bits < 64 && (1 << bits) <= value
 }
 
-/// The place of a setting's variable. `NoSuchVariable` if it has no place in the line, `IsInput` if it is an input, `OtherTask`
-/// if it lies in another task, `TooWide` if the value has too many bits. The first of these decides.
+/// Returns the place of a setting's variable. Fails with the first of these:
+///
+/// - `NoSuchVariable`: the line has no place for it.
+/// - `IsInput`: it is an input.
+/// - `OtherTask`: it lies in another task.
+/// - `TooWide`: the value has too many bits.
 fn place_for(view: &TaskView, task: u8, setting: &Setting) -> Result<Place, PostRefusal>
     ensures judged { IsRefusedBy (setting_refused (view_table view.now) task setting.now) result }
     ensures place { IfOk result (λ place. viewed_place (view_table view.now) setting.now.variable ≡ Some place) }
@@ -61,7 +57,7 @@ fn place_for(view: &TaskView, task: u8, setting: &Setting) -> Result<Place, Post
     Ok(place)
 }
 
-/// The bit of the task's image at which a place of the task begins.
+/// Returns the bit of the task's image at which a place of the task begins.
 fn first_bit(view: &TaskView, place: Place) -> usize
     requires { place.task ≡ view_task view.now }
     ensures { result ≡ table_image_bit (view_table view.now) place 0 }
@@ -73,7 +69,7 @@ fn first_bit(view: &TaskView, place: Place) -> usize
     8 * usize::from(offset) + usize::from(place.bit)
 }
 
-/// Writes a value to the bits of its variable. The errors are those of `place_for`.
+/// Writes a value to the bits of its variable. Fails as `place_for` does.
 fn put_setting(
     view: &TaskView,
     task: u8,
@@ -96,8 +92,8 @@ fn put_setting(
     Ok(())
 }
 
-/// Writes values to the bits of their variables, one after another. The first one that is refused ends it with its error, as
-/// `place_for` has it.
+/// Writes values to the bits of their variables, one after another. The first value that is refused ends it, and it fails as
+/// `place_for` does.
 pub(crate) fn put_settings(
     view: &TaskView,
     task: u8,

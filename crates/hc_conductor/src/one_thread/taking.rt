@@ -1,4 +1,4 @@
-//! What is taken of what tasks post.
+//! Taking of the tasks' posts.
 ghost use Rattle.std.specs.Prelude.{◌≡◌, [], replicate};
 ghost use Rattle.hc_records.specs.declared.limits.TheConstants.{TASKS};
 ghost use Rattle.hc_events.specs.Steps.{entries_after_all};
@@ -10,9 +10,8 @@ use crate::one_thread::master::Master;
 use crate::taking::Taken;
 
 impl Master {
-    /// Takes all that waits, and hands each post to the core as a post of its task, for its epoch: the tasks ascending,
-    /// each one's posts in order. A post that the core refuses, since another epoch has begun, leaves nothing. It takes
-    /// no memory.
+    /// Takes all posts that wait, and hands each to the core for its epoch: the tasks ascending, each task's posts in order. A
+    /// post for another epoch than the present one is refused, and changes nothing. It allocates nothing.
     pub fn take(&mut self) -> Taken
         ensures entries { master_history self.new ≡ entries_after_all (master_history self.old) (events_of_all 0 (waiting self.old)) }
         ensures counts { CountsPosts (master_history self.old) (events_of_all 0 (waiting self.old)) result }

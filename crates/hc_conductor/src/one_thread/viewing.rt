@@ -1,4 +1,4 @@
-//! What tasks view.
+//! Views of tasks.
 ghost use Rattle.std.specs.Prelude.{◌≡◌, ◌<◌, IfOk};
 ghost use Rattle.hc_records.specs.declared.limits.TheConstants.{TASKS};
 ghost use Rattle.hc_publish.specs.Seats.{noted_changes, note_origin};
@@ -18,16 +18,17 @@ use hc_publish::publisher::Note;
 use hc_publish::view_faults::ViewFault;
 use hc_records::records::VarId;
 
-/// What a task views of a variable.
+/// A task's view of a variable.
 #[derive(Clone, Copy, Debug, PartialEq, Eq)]
 pub struct Viewed {
     /// The epoch that is shown.
     pub epoch: u32,
-    /// The variable's value in it, or why the task gets none.
+    /// The variable's value in that epoch, or the reason for which the task gets none.
     pub value: Result<u64, ViewFault>,
 }
 
-/// The value of the variable with a number in a view, or why the task has no value for it. `NoSuchVariable` for the number 0.
+/// Returns the value of the variable with a number in a view. Fails as `TaskView::value` does; the number 0 is
+/// `NoSuchVariable`.
 fn value_in(view: &TaskView, number: u32) -> Result<u64, ViewFault>
     ensures { result ≡ value_answered (views.answered_to view.now) (views.view_task view.now) number }
 {
@@ -37,7 +38,8 @@ fn value_in(view: &TaskView, number: u32) -> Result<u64, ViewFault>
     }
 }
 
-/// The epoch and a variable's value in what a note carries, and the seat again. `NoEntry` if the seat gets no view.
+/// Returns the epoch and a variable's value in what a note carries, and the seat. Fails with `NoEntry` if the seat gets no
+/// view.
 fn look(seat: TaskSeat, asked: (&Note, u32)) -> (TaskSeat, Result<Viewed, NoEntry>)
     requires origin { note_origin asked.0.now ≡ task_seat_origin seat }
     requires known { seat_known seat ≡ noted_changes asked.0.now }
@@ -59,9 +61,9 @@ fn look(seat: TaskSeat, asked: (&Note, u32)) -> (TaskSeat, Result<Viewed, NoEntr
 }
 
 impl Master {
-    /// A task, 0 to 7, views the variable with a number in what is shown: the epoch, and the variable's value or why the
-    /// task gets none; 0 is no variable's number. Once all is published it is what the core's record gives.
-    /// `NoEntry` where the seat was given no view. It waits for nobody and takes no memory.
+    /// Views the variable with a number as a task, 0 to 7: the epoch that is shown, and the variable's value in it or the
+    /// reason for which the task gets none. The number 0 is no variable's. Once everything is published the result is what the
+    /// core's record gives. It allocates nothing and waits for nobody. Fails with `NoEntry` if the seat gets no view.
     pub fn view(&mut self, task: u8, number: u32) -> Result<Viewed, NoEntry>
         requires { task < TASKS }
         ensures viewed { IfOk result (IsViewOf (master_shown self.old) task number) }

@@ -1,4 +1,4 @@
-//! What a task posts.
+//! Outputs that a task holds and posts at its seat.
 ghost use Rattle.std.specs.Prelude.{◌≡◌, ◌<◌, ◌≤◌, ◌↔◌, [], ◌∷◌, ◌++◌, IfOk, IfSome, IsErrOf, IsOk, IsSome, None, OnErr, OnOk, false, length, replicate, true};
 ghost use Rattle.std.specs.Borrow.{sem};
 ghost use Rattle.hc_rings.specs.declared.posts.TheConstants.{POSTS_WAITING};
@@ -11,10 +11,10 @@ use super::TaskSeat;
 use hc_rings::{NoSpare, PostFault};
 
 impl TaskSeat {
-    /// Holds so many zeros for the next post as the task has output bytes in the epoch that was viewed last, in the
-    /// opening's before any view: in the buffer that is held already, or in a free one. `NoSpare` where none is held and
-    /// no buffer is free: only after four posts that were made, and never where a spare is known. It waits for nobody and
-    /// takes no memory.
+    /// Holds zeros for the next post, as many as the task has output bytes in the epoch that was viewed last, or in the
+    /// opening's before any view. They lie in the buffer that is held already, or in a free one. Fails with `NoSpare` if none
+    /// is held and no buffer is free: only after four posts, and never if a free buffer is known. It allocates nothing and
+    /// waits for nobody.
     pub fn hold(&mut self) -> Result<(), NoSpare>
         ensures held { OnOk result (HoldsOutputs self.old self.new (blank_outputs self.old) × IsSome (seat_held self.new)) }
         ensures none_held { OnErr result (HoldsNone self.old self.new) }
@@ -26,7 +26,7 @@ impl TaskSeat {
             .hold(self.viewer.epoch, usize::from(self.viewer.size))
     }
 
-    /// Lends the outputs that are held, for writing. Their epoch stays, and so does the number of bytes.
+    /// Lends the held outputs for writing. Their epoch and the number of bytes stay.
     pub fn held_mut(&mut self) -> &mut [u8]
         requires { IsSome (seat_held self.old) }
         ensures* lent { sem 𝓛 (SeatLendsHeld self.entry result) }
@@ -35,7 +35,7 @@ impl TaskSeat {
         self.posts.held_mut()
     }
 
-    /// Holds zeros for the next post, and answers whether a buffer was free. If none was, four posts were made.
+    /// Holds zeros for the next post, and returns whether a buffer was free. If none was, four posts were made.
     fn holds_zeros(&mut self) -> bool
         ensures held { result ≡ true → HoldsOutputs self.old self.new (blank_outputs self.old) × IsSome (seat_held self.new) }
         ensures no_spare { result ≡ false → HoldsNone self.old self.new }
@@ -44,13 +44,13 @@ impl TaskSeat {
         self.hold().is_ok()
     }
 
-    /// Lends so many bytes as the task has outputs in the epoch that was viewed last, in the opening's before any view;
-    /// all are 0. Called again before a post it is the same buffer, zeros again, for the epoch that was then viewed last.
-    /// `NoSpare` where none is held and no buffer is free: only after four posts that were made. It waits for nobody and
-    /// takes no memory.
+    /// Lends zeros for the next post, as many as the task has output bytes in the epoch that was viewed last, or in the
+    /// opening's before any view. A second call before a post lends the same buffer, zeros again, for the epoch that was viewed
+    /// last by then. Fails with `NoSpare` if none is held and no buffer is free: only after four posts. It allocates nothing
+    /// and waits for nobody.
     ///
-    /// It is `hold` and `held_mut` in one call. Its proof is by hand, and a caller whose proof is generated learns nothing
-    /// of the seat after it.
+    /// It is `hold` and `held_mut` in one call. Its proof is by hand, and a caller with a generated proof learns nothing of the
+    /// seat after it.
     pub fn outputs(&mut self) -> Result<&mut [u8], NoSpare>
         ensures* lent { sem 𝓛 (SeatLendsOutputs self.entry result) }
         ensures zeros { IfOk result (λ bytes. bytes.now ≡ replicate (outputs_size self.old) 0) }
@@ -63,9 +63,11 @@ impl TaskSeat {
         Err(NoSpare)
     }
 
-    /// Posts the outputs that are held as they were left, for the epoch that they are held for. `NoBuffer` exactly where
-    /// none are held; `Full` only after four posts that were made, and never where a place is known; the outputs then stay
-    /// held. It waits for nobody and takes no memory.
+    /// Posts the held outputs as they are, for the epoch that they are held for. It allocates nothing and waits for nobody.
+    /// Fails with one of these; then the outputs stay held:
+    ///
+    /// - `NoBuffer`: exactly if none are held.
+    /// - `Full`: only after four posts, and never if a free place is known.
     pub fn post(&mut self) -> Result<(), PostFault>
         ensures seat { SameSeat self.old self.new }
         ensures ring { SameSender (sender self.old) (sender self.new) }

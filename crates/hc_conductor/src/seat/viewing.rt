@@ -1,4 +1,4 @@
-//! How a seat views.
+//! Views from a seat.
 ghost use Rattle.std.specs.Prelude.{◌≡◌, ◌≤◌, ◌⊎◌, Err, IfErr, IfOk, MatchResult, Ok};
 ghost use mathlib.Core.List.{IsPrefix};
 ghost use Rattle.hc_publish.specs.ChangesSince.{IsLegal};
@@ -19,8 +19,8 @@ use hc_publish::seat::Seat;
 use hc_publish::view::View;
 use hc_rings::PostSender;
 
-/// The task's view; or, if the seat got none, the task's seat as it was, with the epoch it viewed last and the size of its
-/// outputs in bytes.
+/// Returns the task's view, or, if the seat gets none, the task's seat unchanged, with the epoch that it viewed last and the
+/// size of its outputs in bytes.
 fn looked(
     viewed: Result<View, Seat>,
     epoch: u32,
@@ -44,8 +44,8 @@ fn looked(
 }
 
 impl TaskSeat {
-    /// Looks at what is published now: a legal list that begins with all that the seat saw or learnt. The seat comes
-    /// back as it was where there was no entry. It waits for nobody and takes no memory.
+    /// Views what is published now: a legal list that begins with all that the seat saw or learnt. Returns the seat unchanged
+    /// if there is no entry. It allocates nothing and waits for nobody.
     pub fn view(self) -> Result<TaskView, TaskSeat>
         ensures begins { MatchResult result (λ view. IsPrefix (seat_known self) (view_shown view)) (λ seat. seat_known seat ≡ seat_known self) }
         ensures legal { IfOk result (λ view. IsLegal (answered_to view)) }
@@ -58,9 +58,9 @@ impl TaskSeat {
         looked(seat.view(), epoch, size, posts)
     }
 
-    /// Looks at just what a note of the seat's conductor carries, which is published still where the conductor has not
-    /// published since. The seat comes back as it was where there was no entry, or where something else is published.
-    /// It waits for nobody and takes no memory.
+    /// Views exactly what a note of the seat's conductor carries, if that is still published: the conductor has not published
+    /// since. Returns the seat unchanged if there is no entry, or if something else is published. It allocates nothing and
+    /// waits for nobody.
     pub fn view_of(self, note: &Note) -> Result<TaskView, TaskSeat>
         requires { note_origin note.now ≡ task_seat_origin self }
         ensures exact { MatchResult result (λ view. view_shown view ≡ noted_changes note.now) (λ seat. seat_known seat ≡ seat_known self) }
@@ -75,8 +75,8 @@ impl TaskSeat {
         looked(seat.view_of(note), epoch, size, posts)
     }
 
-    /// Takes in what a note of the seat's conductor carries: the seat then knows the longer of the two lists, which
-    /// begins with the other. It waits for nobody and takes no memory.
+    /// Learns what a note of the seat's conductor carries. The seat then knows the longer of the two lists, which begins with
+    /// the other. It allocates nothing and waits for nobody.
     pub fn learn(&mut self, note: Note)
         requires { note_origin note ≡ task_seat_origin self.old }
         ensures one { (seat_known self.new ≡ seat_known self.old) ⊎ (seat_known self.new ≡ noted_changes note) }

@@ -1,4 +1,4 @@
-//! What a task sees: of its own datagrams, at the end of the changes of the copy that it looks at.
+//! Reads of a task's view: its own datagrams, after all changes of the viewed copy.
 ghost use Rattle.std.specs.Prelude.{◌≡◌, IfSome};
 ghost use Rattle.std.specs.Option.{option_copied};
 ghost use Rattle.hc_places.specs.Ranges.{IsDatagram};
@@ -18,22 +18,22 @@ use hc_publish::view_faults::ViewFault;
 use hc_records::records::VarId;
 
 impl TaskView {
-    /// The epoch: the number of accepted edits that are shown.
+    /// Returns the epoch: the number of accepted edits that are shown.
     pub fn epoch(&self) -> u32
         ensures { result ≡ epoch_shown (answered_to self.now) }
     {
         self.view.epoch()
     }
 
-    /// The bytes of the outputs, which come first, and of the inputs of the task's image.
+    /// Returns the sizes of the task's image in bytes: first the outputs, then the inputs.
     pub fn part(&self) -> (u16, u16)
         ensures { result ≡ part_in (view_table self.now) (view_task self.now) }
     {
         self.view.part()
     }
 
-    /// A datagram of the task by its number; none where the task has fewer. Its offset is where its data, and so its
-    /// outputs, are in the bytes that `outputs` lends for the epoch.
+    /// Returns a datagram of the task by its number, or `None` if the task has fewer. Its offset is that of its data in the
+    /// image, and of its outputs in the bytes that `outputs` lends for the epoch.
     pub fn datagram(&self, number: u8) -> Option<Datagram>
         ensures datagram { result ≡ datagram_in (view_table self.now) (view_task self.now) number }
         ensures ranges { IfSome result IsDatagram }
@@ -41,32 +41,36 @@ impl TaskView {
         self.view.datagram(number)
     }
 
-    /// Where a variable is, of any task; none where it has no place in the line.
+    /// Returns the place of a variable of any task, or `None` if the line has no place for it.
     pub fn place(&self, variable: VarId) -> Option<Place>
         ensures { result ≡ place_in (view_table self.now) variable }
     {
         self.view.place(variable)
     }
 
-    /// The bytes of a datagram of the task, lent from the published copy: those of its last good answer in the
-    /// epoch, or none; none too where the line has no such datagram.
+    /// Lends the bytes of a datagram of the task from the published copy: those of its last good answer in the epoch. `None` if
+    /// it has no good answer in the epoch, or the line has no such datagram.
     pub fn inputs(&self, datagram: u8) -> Option<&[u8]>
         ensures { option_copied result ≡ data_shown (answered_to self.now) (view_task self.now) datagram }
     {
         self.view.inputs(datagram)
     }
 
-    /// The value of an input variable of the task: its bits in its datagram's bytes. Otherwise the first of these
-    /// that holds: `NoSuchVariable` where it has no place in the line, `IsOutput` where it is an output,
-    /// `OtherTask` where it lies in another task, `NotAnswered` where its datagram has no good answer in the epoch.
+    /// Returns the value of an input variable of the task, from its bits in its datagram's bytes. Fails with the first of
+    /// these:
+    ///
+    /// - `NoSuchVariable`: the line has no place for it.
+    /// - `IsOutput`: it is an output.
+    /// - `OtherTask`: it lies in another task.
+    /// - `NotAnswered`: its datagram has no good answer in the epoch.
     pub fn value(&self, variable: VarId) -> Result<u64, ViewFault>
         ensures { result ≡ value_shown (answered_to self.now) (view_task self.now) variable }
     {
         self.view.value(variable)
     }
 
-    /// Gives the seat back, which has seen what the view showed: its next outputs are for that epoch. What it holds and
-    /// posted is as it was.
+    /// Ends the view, and returns the seat. Its next outputs are for the epoch that the view showed. Held outputs and posts are
+    /// unchanged.
     pub fn leave(self) -> TaskSeat
         ensures known { seat_known result ≡ view_shown self }
         ensures origin { task_seat_origin result ≡ task_view_origin self }

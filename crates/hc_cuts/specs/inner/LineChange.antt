@@ -1,4 +1,4 @@
--- How the areas of the slaves of a change are lent.
+-- The areas of the slaves of a change, as they are lent.
 use Rattle.std.specs.Prelude.{List, [], ◌∷◌, replicate, true}
 use Rattle.hc_records.specs.declared.records.Area.{Area}
 use Rattle.hc_cuts.specs.declared.line_change.Side.{Side}

@@ -22,10 +22,11 @@ use Rattle.hc_events.specs.Entries.{HistoryEntry, History, Opened, Edited, Poste
 use Rattle.hc_events.specs.Points.{epoch_of, line_of, next_serial, state_of}
 use Rattle.hc_events.specs.Sendings.{Frame, Named, frame_of_one, framed, framed_after, has_room, frame_joined, line_data_length, task_datagrams}
 use Rattle.hc_events.specs.Owed.{is_in_line, last_write, owed_blocks}
+use Rattle.hc_events.specs.UnderWay.{further_blocks}
 use Rattle.hc_events.specs.Ready.{is_ready, with_cleared}
 use Rattle.hc_events.specs.WriteFrames.{frame_blocks}
-use Rattle.hc_events.specs.Steps.{Step, Edits, Posts, PostsSteady, SendsTasks, SendsWrite, SendsWrites, Arrives, Reads, Forgets, SendsReady, Clears, Unplugs, unless_fault, edit_refused, clear_faults, forget_faults, ready_faults, unplug_faults, wait_fault, is_no_task, is_stale_epoch, post_faults, post_steady_faults, proposal, has_serials, task_faults, with_sent, write_faults, with_write, with_writes, with_arrival, entries_after, entries_after_all}
-use Rattle.hc_events.specs.Accepted.{AreAccepted, IsAccepted, IsPost, IsInLine, IsUnplugging, frames_of, just_opened}
+use Rattle.hc_events.specs.Steps.{Step, Edits, Posts, PostsSteady, SendsTasks, SendsWrite, SendsWrites, Arrives, Reads, Forgets, SendsReady, Clears, Unplugs, SendsFurther, unless_fault, edit_refused, clear_faults, forget_faults, further_faults, ready_faults, unplug_faults, wait_fault, is_no_task, is_stale_epoch, post_faults, post_steady_faults, proposal, has_serials, task_faults, with_sent, write_faults, with_write, with_writes, with_arrival, entries_after, entries_after_all}
+use Rattle.hc_events.specs.Accepted.{AreAccepted, IsAccepted, IsFirstWrite, IsPost, IsInLine, IsUnplugging, frames_of, just_opened}
 use Rattle.hc_events.proofs.lemmas.Awaited.{same_is}
 
 -- the datagrams of a proposal are the line's
@@ -220,11 +221,14 @@ one_some block blocks = omega arith
 
 keeps_write : (P : History → Type 0) → StaysTrue P → (history : History) (blocks : List LineBlock) → owed_blocks history ≡ blocks → P history → P (with_write history blocks)
 keeps_write P stays history [] same before = before
-keeps_write P stays history (block ∷ blocks) same before = stays history (Wrote (block ∷ [])) (record { some = one_some block []; first = inl (sym (ap (take 1) same)) }) before
+keeps_write P stays history (block ∷ blocks) same before = stays history (Wrote (block ∷ [])) (record { some = one_some block []; first = inl (inl (sym (ap (take 1) same))) }) before
 
-keeps_writes : (P : History → Type 0) → StaysTrue P → (history : History) (blocks : List LineBlock) → frame_blocks (owed_blocks history) ≡ blocks → P history → P (with_writes history blocks)
+abbrev IsOneOf : History → List LineBlock → Type 0
+IsOneOf history blocks = IsFirstWrite (owed_blocks history) blocks ⊎ (blocks ≡ frame_blocks (further_blocks history))
+
+keeps_writes : (P : History → Type 0) → StaysTrue P → (history : History) (blocks : List LineBlock) → IsOneOf history blocks → P history → P (with_writes history blocks)
 keeps_writes P stays history [] same before = before
-keeps_writes P stays history (block ∷ blocks) same before = stays history (Wrote (block ∷ blocks)) (record { some = one_some block blocks; first = inr (sym same) }) before
+keeps_writes P stays history (block ∷ blocks) same before = stays history (Wrote (block ∷ blocks)) (record { some = one_some block blocks; first = same }) before
 
 keeps_either : (P : History → Type 0) (b : Bool) (x y : History) → (b ≡ true → P x) → (b ≡ false → P y) → P (cond b x y)
 keeps_either P true x y then' else' = then' refl
@@ -260,7 +264,7 @@ unchanged-after P stays history (SendsTasks tasks) before =
 unchanged-after P stays history SendsWrite before =
     keeps_if P (lowest (write_faults history (owed_blocks history))) history (with_write history (owed_blocks history)) (λ e. keeps_write P stays history (owed_blocks history) refl before) before
 unchanged-after P stays history SendsWrites before =
-    keeps_if P (lowest (write_faults history (owed_blocks history))) history (with_writes history (frame_blocks (owed_blocks history))) (λ e. keeps_writes P stays history (frame_blocks (owed_blocks history)) refl before) before
+    keeps_if P (lowest (write_faults history (owed_blocks history))) history (with_writes history (frame_blocks (owed_blocks history))) (λ e. keeps_writes P stays history (frame_blocks (owed_blocks history)) (inl (inr refl)) before) before
 unchanged-after P stays history (Arrives bytes) before = keeps_arrival P stays history (arrival_in bytes) before
 unchanged-after P stays history (Reads task) before = before
 unchanged-after P stays history (Forgets station) before =
@@ -273,6 +277,8 @@ unchanged-after P stays history (Clears station) before =
     keeps_if P (lowest (clear_faults history station)) history (with_cleared history station) (λ e. keeps-cleared P stays history station (accepted_clear history station e) before) before
 unchanged-after P stays history (Unplugs station) before =
     keeps_if P (lowest (unplug_faults history station)) history (Unplugged station ∷ history) (λ e. stays history (Unplugged station) (accepted_unplug history station e) before) before
+unchanged-after P stays history SendsFurther before =
+    keeps_if P (lowest (further_faults history)) history (with_writes history (frame_blocks (further_blocks history))) (λ e. keeps_writes P stays history (frame_blocks (further_blocks history)) (inr refl) before) before
 
 pub unchanged-after_all : (P : History → Type 0) → StaysTrue P → (history : History) (steps : List Step) → P history → P (entries_after_all history steps)
 unchanged-after_all P stays history [] before = before

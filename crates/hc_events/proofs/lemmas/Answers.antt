@@ -22,7 +22,7 @@ use Rattle.hc_events.specs.Accepted.{AreAccepted, IsAccepted, IsWrite, IsInLine}
 use Rattle.hc_events.specs.SendingLaws.{heads_of, is_opening, is_sending}
 use Rattle.hc_events.specs.AnswerLaws.{AnswersTheAwaited, IsAnsweredAs, IsAwaited, IsFirstAnswer, IsHeadOf, LeavesAwaited}
 use Rattle.hc_events.proofs.lemmas.Awaited.{judged-filter, updates-is, same_is}
-use Rattle.hc_events.proofs.lemmas.Fronts.{front-all, write-front}
+use Rattle.hc_events.proofs.lemmas.Fronts.{written-all}
 use Rattle.hc_events.proofs.lemmas.Once.{only-if_some}
 use Rattle.hc_events.proofs.lemmas.Placing.{standing-found, is_placed-at}
 
@@ -177,10 +177,8 @@ writes_of_line line (block ∷ blocks) all =
     (writes_of_line line blocks (All-tail (Contains (line_blocks line)) block blocks all))
 
 -- and what a frame writes
-pub written-inside : (history : History) (blocks : List LineBlock) → IsWrite (owed_blocks history) blocks → All (Contains (line_blocks (line_of history))) blocks
-written-inside history blocks write =
-    let front = write-front (owed_blocks history) blocks write in
-    front-all (Contains (line_blocks (line_of history))) blocks front.rest (subst (All (Contains (line_blocks (line_of history)))) front.joined (owed-inside history))
+pub written-inside : (history : History) (blocks : List LineBlock) → IsWrite history blocks → All (Contains (line_blocks (line_of history))) blocks
+written-inside history blocks write = written-all (Contains (line_blocks (line_of history))) history blocks write (owed-inside history)
 
 heads_of_line : (before : History) (entry : HistoryEntry) → is_sending entry ≡ true → IsAccepted before entry → All (IsHeadOf (line_of before)) (heads_of before entry)
 heads_of_line before (Opened groups) sends accepted = cc

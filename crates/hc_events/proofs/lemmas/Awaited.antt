@@ -46,7 +46,7 @@ starts_filter (Wrote blocks ∷ since) =
 starts_filter (Came arrival ∷ since) = starts_filter since
 starts_filter (other ∷ since) = starts_filter since
 
-outdated_filter : (item : Item) (since : List HistoryEntry) → is_outdated item (filter is_no_arrival since) ≡ is_outdated item since
+pub outdated_filter : (item : Item) (since : List HistoryEntry) → is_outdated item (filter is_no_arrival since) ≡ is_outdated item since
 outdated_filter (Datagram task d) since = any-filter (sends (Datagram task d)) (λ arrival. refl) since
 outdated_filter (Block station number) since =
     ap (λ b. (b || starts_over (filter is_no_arrival since)) || list_any (sends (Block station number)) (filter is_no_arrival since)) (any-filter (forgets station) (λ arrival. refl) since)

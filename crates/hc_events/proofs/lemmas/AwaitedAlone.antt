@@ -1,9 +1,11 @@
 -- Beside an awaited register write no frame of tasks is awaited, as long as no slave was forgotten: something is owed where a write is awaited, and nothing where a frame of tasks is.
 use Rattle.std.proofs.Common.{◌≡◌, ℕ, suc, ◌<◌, ◌≤◌, ◌==◌, nat_lt, true, false, List, [], ◌∷◌, ◌++◌, length, refl, sym, ap, ◌∙◌, subst, arith, Some}
+use Rattle.std.specs.Prelude.{All}
 use Rattle.std.specs.List.{list_all, list_any}
 use Rattle.std.proofs.lemmas.Bool.Decides.{nat_tests}
 use Rattle.std.proofs.lemmas.Bool.{and_parts, eqb-true}
 use Rattle.std.proofs.lemmas.List.{length-map}
+use Rattle.std.proofs.lemmas.List.Elements.{All-head, All-nil}
 use Rattle.std.proofs.lemmas.Option.{none-some}
 use Rattle.hc_records.specs.declared.records.Group.{Group}
 use Rattle.hc_records.proofs.lemmas.Choices.{by_bool}
@@ -15,14 +17,14 @@ use Rattle.hc_events.specs.Heads.{block_item, is_block, write_head, write_heads}
 use Rattle.hc_events.specs.Answering.{Sending, ends, is_forgetting, sending_of}
 use Rattle.hc_events.specs.Awaited.{all_outdated, awaited, is_write_sending}
 use Rattle.hc_events.specs.Owed.{is_owed, owed_blocks}
-use Rattle.hc_events.specs.Accepted.{AreAccepted, IsWrite, just_opened}
+use Rattle.hc_events.specs.Accepted.{AreAccepted, IsWrite, carries_first, just_opened}
 use Rattle.hc_events.specs.AnswerLaws.{HasOwnNames, sent_programmed}
 use Rattle.hc_events.specs.Forgetting.{writes_one}
 use Rattle.hc_events.proofs.lemmas.Accepted.{StaysTrue, held-of_accepted}
 use Rattle.hc_events.proofs.lemmas.Answers.{accepted-at, still_awaited-is, written-inside}
 use Rattle.hc_events.proofs.lemmas.Awaited.{awaited_edited}
 use Rattle.hc_events.proofs.lemmas.BlockSizes.{write-few}
-use Rattle.hc_events.proofs.lemmas.Fronts.{is_named, write-front}
+use Rattle.hc_events.proofs.lemmas.Fronts.{is_named, written-all}
 use Rattle.hc_events.proofs.lemmas.Live.{live-owed}
 use Rattle.hc_events.proofs.lemmas.OneWrite.{NotAgain, filter_none, new_wrote, not-owed_stays, older_wrote, still_came, still_other, write_was}
 use Rattle.hc_events.proofs.lemmas.TwoWrites.{InLine, line-stays, named-passing, some-live, two-writes, wrote-at}
@@ -39,7 +41,7 @@ awaited-owes history serial write all e w =
     let still_awaited = still_awaited-is serial (sending_of history serial) write e in
     let made = still_awaited.made in
     let at = wrote-at history serial made still_awaited.there (ap (λ (s : Sending). list_any (λ head. is_block head.item) s.heads) still_awaited.same ∙ w) in
-    let accepted : IsWrite (owed_blocks at.before) at.blocks = accepted-at made.since at.before (Wrote at.blocks) at.running refl (subst AreAccepted at.split all) in
+    let accepted : IsWrite at.before at.blocks = accepted-at made.since at.before (Wrote at.blocks) at.running refl (subst AreAccepted at.split all) in
     let going : list_any (ends serial (write_heads at.blocks)) made.since ≡ false = ap (λ heads. list_any (ends serial heads) made.since) (sym at.heads) ∙ still_awaited.goes_on in
     let line : line_of history ≡ line_of at.before = ap line_of at.split ∙ line-stays made.since (Wrote at.blocks ∷ at.before) serial (write_heads at.blocks) at.running going in
     let live = some-live (InLine (line_of at.before)) made.since at.blocks (written-inside at.before at.blocks accepted) (ap (all_outdated made.since) (sym at.heads) ∙ still_awaited.updates) in
@@ -71,18 +73,19 @@ below-true a b t = grind (arith, nat_tests)
 neither : (a b : ℕ) → nat_lt a b ≡ false → nat_lt b a ≡ false → b ≡ a
 neither a b t u = grind (arith, nat_tests)
 
-never_some : (blocks rest : List LineBlock) → 0 < length blocks → [] ≡ blocks ++ rest → ⊥
-never_some [] rest some e = omega arith
-never_some (block ∷ blocks) rest some e = cc
+never_some : (blocks : List LineBlock) → 0 < length blocks → All (λ (block : LineBlock). ⊥) blocks → ⊥
+never_some [] some none = omega arith
+never_some (block ∷ blocks) some none = All-head (λ (one : LineBlock). ⊥) block blocks none
 
-nothing_written : (history : History) (blocks : List LineBlock) → IsWrite (owed_blocks history) blocks → owed_blocks history ≡ [] → ⊥
-nothing_written history blocks write none = never_some blocks (write-front (owed_blocks history) blocks write).rest write.some (sym none ∙ (write-front (owed_blocks history) blocks write).joined)
+nothing_written : (history : History) (blocks : List LineBlock) → IsWrite history blocks → owed_blocks history ≡ [] → ⊥
+nothing_written history blocks write none =
+    never_some blocks write.some (written-all (λ (block : LineBlock). ⊥) history blocks write (subst (All (λ (block : LineBlock). ⊥)) (sym none) (All-nil (λ (block : LineBlock). ⊥))))
 
 heads_are : (blocks : List LineBlock) → 0 < length blocks → list_any (λ head. is_block head.item) (write_heads blocks) ≡ true
 heads_are [] some = absurd (omega arith)
 heads_are (block ∷ blocks) some = refl
 
-wrote_tasks : (history : History) (blocks : List LineBlock) (serial : ℕ) (now : Sending) → TasksOweNothing history → IsWrite (owed_blocks history) blocks → awaited (Wrote blocks ∷ history) serial ≡ Some now → is_write_sending now ≡ false
+wrote_tasks : (history : History) (blocks : List LineBlock) (serial : ℕ) (now : Sending) → TasksOweNothing history → IsWrite history blocks → awaited (Wrote blocks ∷ history) serial ≡ Some now → is_write_sending now ≡ false
     → list_any is_forgetting history ≡ false → sent_programmed history ≡ true → ⊥
 wrote_tasks history blocks serial now before write e w none programmed =
     by_bool (next_serial history == serial)
@@ -130,7 +133,7 @@ writes-alone history serial other write sending all none programmed there w e =
 pub write-blocks : (history : History) (serial : ℕ) (sending : Sending) → AreAccepted history → sending_of history serial ≡ Some sending → is_write_sending sending ≡ true → length sending.heads ≤ FRAME_BLOCKS
 write-blocks history serial sending all e w =
     let at = wrote-at history serial sending e w in
-    let accepted : IsWrite (owed_blocks at.before) at.blocks = accepted-at sending.since at.before (Wrote at.blocks) at.running refl (subst AreAccepted at.split all) in
+    let accepted : IsWrite at.before at.blocks = accepted-at sending.since at.before (Wrote at.blocks) at.running refl (subst AreAccepted at.split all) in
     subst (λ n. n ≤ FRAME_BLOCKS) (sym (ap length at.heads ∙ length-map at.blocks write_head)) (write-few at.before at.blocks accepted)
 
 -- where each write has a frame of its own, one is awaited at most
@@ -148,11 +151,11 @@ never_more older history serial ones e w more =
     let single : length older.heads ≡ 1 = ap length (sym heads ∙ at.heads) ∙ length-map at.blocks write_head ∙ one in
     omega arith
 
-pub one-write : (history : History) (serial other : ℕ) (write sending : Sending) → AreAccepted history → HasOwnNames (line_of history) → list_all writes_one history ≡ true → awaited history serial ≡ Some write → is_write_sending write ≡ true
+pub one-write : (history : History) (serial other : ℕ) (write sending : Sending) → AreAccepted history → HasOwnNames (line_of history) → carries_first history serial → carries_first history other → list_all writes_one history ≡ true → awaited history serial ≡ Some write → is_write_sending write ≡ true
     → awaited history other ≡ Some sending → is_write_sending sending ≡ true → other ≡ serial
-one-write history serial other write sending all names ones e w f v =
+one-write history serial other write sending all names carries others ones e w f v =
     by_bool (nat_lt serial other)
-    (λ t. absurd (never_more write history serial ones e w (two-writes history serial other write sending all names (below-true serial other t) e w f v).more))
+    (λ t. absurd (never_more write history serial ones e w (two-writes history serial other write sending all names carries others (below-true serial other t) e w f v).more))
     (λ t. by_bool (nat_lt other serial)
-    (λ u. absurd (never_more sending history other ones f v (two-writes history other serial sending write all names (below-true other serial u) f v e w).more))
+    (λ u. absurd (never_more sending history other ones f v (two-writes history other serial sending write all names others carries (below-true other serial u) f v e w).more))
     (λ u. neither serial other t u))

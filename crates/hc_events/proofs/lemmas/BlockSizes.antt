@@ -16,8 +16,9 @@ use Rattle.hc_events.specs.Owed.{is_owed, owed_blocks}
 use Rattle.hc_events.specs.Points.{line_of}
 use Rattle.hc_events.specs.Sendings.{has_room}
 use Rattle.hc_events.specs.WriteFrames.{block_bytes, blocks_beside, blocks_bytes, frame_blocks}
-use Rattle.hc_events.specs.Accepted.{IsWrite}
-use Rattle.hc_events.proofs.lemmas.Fronts.{beside-fits, front-all, write-front}
+use Rattle.hc_events.specs.Accepted.{IsFirstWrite, IsWrite}
+use Rattle.hc_events.specs.UnderWay.{further_blocks}
+use Rattle.hc_events.proofs.lemmas.Fronts.{beside-fits, further-all, written-all}
 
 pub record HasSize (block : RegisterBlock) : Type 0 where
   pub least : 8 ≤ length block.bytes
@@ -57,15 +58,19 @@ few_alone : (blocks : List LineBlock) → length (take 1 blocks) ≤ 1
 few_alone [] = omega arith
 few_alone (block ∷ blocks) = omega arith
 
-pub write-sized : (history : History) (blocks : List LineBlock) → IsWrite (owed_blocks history) blocks → All Sized blocks
-write-sized history blocks write =
-    let front = write-front (owed_blocks history) blocks write in
-    front-all (Sized) blocks front.rest (subst (All Sized) front.joined (owed-sized history))
+frame_fits : (blocks all : List LineBlock) → blocks ≡ frame_blocks all → 2 + (0 + blocks_bytes blocks) ≤ MAX_ETHERCAT
+frame_fits blocks all held = subst (λ some. 2 + (0 + blocks_bytes some) ≤ MAX_ETHERCAT) (sym held) (beside-fits 0 all (omega arith))
 
-pub write-fits : (history : History) (blocks : List LineBlock) → IsWrite (owed_blocks history) blocks → 2 + (0 + blocks_bytes blocks) ≤ MAX_ETHERCAT
+pub write-sized : (history : History) (blocks : List LineBlock) → IsWrite history blocks → All Sized blocks
+write-sized history blocks write = written-all Sized history blocks write (owed-sized history)
+
+pub write-fits : (history : History) (blocks : List LineBlock) → IsWrite history blocks → 2 + (0 + blocks_bytes blocks) ≤ MAX_ETHERCAT
 write-fits history blocks write =
-    ⊎_elim (λ (alone : blocks ≡ take 1 (owed_blocks history)). one_fits blocks (write-sized history blocks write) (subst (λ some. length some ≤ 1) (sym alone) (few_alone (owed_blocks history))))
-    (λ (held : blocks ≡ frame_blocks (owed_blocks history)). subst (λ some. 2 + (0 + blocks_bytes some) ≤ MAX_ETHERCAT) (sym held) (beside-fits 0 (owed_blocks history) (omega arith))) write.first
+    let sized = write-sized history blocks write in
+    ⊎_elim (λ (first : IsFirstWrite (owed_blocks history) blocks).
+    ⊎_elim (λ (alone : blocks ≡ take 1 (owed_blocks history)). one_fits blocks sized (subst (λ some. length some ≤ 1) (sym alone) (few_alone (owed_blocks history))))
+    (frame_fits blocks (owed_blocks history)) first)
+    (frame_fits blocks (further_blocks history)) write.first
 
 counted : (blocks : List LineBlock) → All Sized blocks → 20 * length blocks ≤ blocks_bytes blocks
 counted [] all = omega arith
@@ -76,7 +81,7 @@ counted (block ∷ blocks) all =
     omega arith
 
 -- so it writes at most 74 blocks
-pub write-few : (history : History) (blocks : List LineBlock) → IsWrite (owed_blocks history) blocks → length blocks ≤ FRAME_BLOCKS
+pub write-few : (history : History) (blocks : List LineBlock) → IsWrite history blocks → length blocks ≤ FRAME_BLOCKS
 write-few history blocks write =
     let least = counted blocks (write-sized history blocks write) in
     let most = write-fits history blocks write in
@@ -96,3 +101,6 @@ holds_first (block ∷ blocks) all some =
 
 pub frame-holds : (history : History) → 0 < length (owed_blocks history) → 0 < length (frame_blocks (owed_blocks history))
 frame-holds history some = holds_first (owed_blocks history) (owed-sized history) some
+
+pub further-holds : (history : History) → 0 < length (further_blocks history) → 0 < length (frame_blocks (further_blocks history))
+further-holds history some = holds_first (further_blocks history) (further-all Sized history (owed-sized history)) some

@@ -89,19 +89,18 @@ some_or : (serial : ℕ) (found : Option LineBlock) (rest : Option (ℕ × List 
 some_or serial None rest some = cc
 some_or serial (Some block) rest some = refl
 
-last_of : (history : History) (arrival : Arrival) (sending : Sending) (station number : ℕ) → sending_of history arrival.serial ≡ Some sending → is_answer arrival sending ≡ true
-    → Confirms (Block station number) sending.heads sending.since → IsConfirmed history arrival.serial station number
-last_of history arrival sending station number there answers one =
-    let at = wrote-at history arrival.serial sending there one.write in
+pub last-of : (history : History) (serial : ℕ) (sending : Sending) (station number : ℕ) → sending_of history serial ≡ Some sending → list_any (ends serial sending.heads) sending.since ≡ false
+    → Confirms (Block station number) sending.heads sending.since → IsConfirmed history serial station number
+last-of history serial sending station number there going one =
+    let at = wrote-at history serial sending there one.write in
     let item = Block station number in
-    let going = not-true (list_any (ends arrival.serial sending.heads) sending.since) (and_parts (fits_sending arrival.serial sending.heads arrival) _ answers).1 in
     let live = or_parts (list_any (forgets station) sending.since || starts_over sending.since) (list_any (sends item) sending.since) one.live in
     let unchanged = or_parts (list_any (forgets station) sending.since) (starts_over sending.since) live.0 in
-    let stays = last-stays sending.since (Wrote at.blocks ∷ at.before) arrival.serial sending.heads station number at.running going unchanged.0 live.1 in
+    let stays = last-stays sending.since (Wrote at.blocks ∷ at.before) serial sending.heads station number at.running going unchanged.0 live.1 in
     let some : is_some (block_among station number at.blocks) ≡ true =
     sym (any_found (λ block. same_item item (block_item block)) at.blocks) ∙ sym (heads_named item at.blocks) ∙ sym (ap (list_any (λ head. same_item item head.item)) at.heads) ∙ one.carried in
-    let line = ap line_of at.split ∙ line-stays sending.since (Wrote at.blocks ∷ at.before) arrival.serial sending.heads at.running going in
-    found_some history arrival.serial station number at.blocks (block_among station number at.blocks) refl some
+    let line = ap line_of at.split ∙ line-stays sending.since (Wrote at.blocks ∷ at.before) serial sending.heads at.running going in
+    found_some history serial station number at.blocks (block_among station number at.blocks) refl some
     (ap (λ entries. last_write entries station number) at.split ∙ stays
     ∙ some_or (next_serial at.before) (block_among station number at.blocks) (last_write at.before station number) some
     ∙ ap (λ n. option_or (option_map (write_of n) (block_among station number at.blocks)) None) at.serial_is)
@@ -112,7 +111,8 @@ confirmed_if : (history : History) (arrival : Arrival) (station number : ℕ) (f
 confirmed_if history arrival station number None there e = cc
 confirmed_if history arrival station number (Some sending) there e =
     by_bool (is_answer arrival sending)
-    (λ t. last_of history arrival sending station number there t
+    (λ t. last-of history arrival.serial sending station number there
+    (not-true (list_any (ends arrival.serial sending.heads) sending.since) (and_parts (fits_sending arrival.serial sending.heads arrival) _ t).1)
     (confirms-by sending.since station number sending.heads arrival.parts (sym (ap (λ b. list_any (confirms (Block station number)) (option_map_or (judged arrival) (cond b (Some sending) None) [])) t) ∙ e)))
     (λ t. let never : false ≡ true = sym (ap (λ b. list_any (confirms (Block station number)) (option_map_or (judged arrival) (cond b (Some sending) None) [])) t) ∙ e in cc)
 

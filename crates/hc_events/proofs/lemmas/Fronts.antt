@@ -1,10 +1,10 @@
 -- The first blocks that one frame holds: they are a front of the blocks, they fit, and they hold each front that fits. A block that is written and still owed is among the first that are owed.
-use Rattle.std.proofs.Common.{◌≡◌, ℕ, ◌+◌, ◌≤◌, ◌==◌, Bool, true, false, cond, ◌&&◌, ◌||◌, List, [], ◌∷◌, ◌++◌, filter, length, take, refl, sym, ap, ◌∙◌, subst, arith, ⊎_elim}
+use Rattle.std.proofs.Common.{◌≡◌, ℕ, ◌+◌, ◌≤◌, ◌==◌, Bool, true, false, cond, not, ◌&&◌, ◌||◌, List, [], ◌∷◌, ◌++◌, filter, length, take, refl, sym, ap, ◌∙◌, subst, arith, ⊎_elim}
 use Rattle.std.specs.Prelude.{All}
 use Rattle.std.specs.List.{list_any}
 use Rattle.std.proofs.lemmas.Bool.Decides.{nat_tests}
 use Rattle.std.proofs.lemmas.Bool.{or_left, or_right}
-use Rattle.std.proofs.lemmas.List.Elements.{All-nil, All-cons, All-head, All-tail}
+use Rattle.std.proofs.lemmas.List.Elements.{All-nil, All-cons, All-filter, All-head, All-tail}
 use Rattle.std.proofs.lemmas.List.Sums.{sum_by-cons}
 use Rattle.hc_records.proofs.lemmas.Choices.{by_bool, member-by}
 use Rattle.hc_frames.specs.declared.limits.TheConstants.{MAX_ETHERCAT}
@@ -12,7 +12,10 @@ use Rattle.hc_registers.specs.Blocks.{LineBlock}
 use Rattle.hc_events.specs.Heads.{Item, Datagram, Block, block_item, same_item}
 use Rattle.hc_events.specs.Sendings.{has_room}
 use Rattle.hc_events.specs.WriteFrames.{block_bytes, blocks_beside, blocks_bytes, frame_blocks}
-use Rattle.hc_events.specs.Accepted.{IsWrite}
+use Rattle.hc_events.specs.Accepted.{IsFirstWrite, IsWrite}
+use Rattle.hc_events.specs.Entries.{History}
+use Rattle.hc_events.specs.Owed.{owed_blocks}
+use Rattle.hc_events.specs.UnderWay.{further_blocks, is_under_way}
 
 -- a front of blocks
 
@@ -33,16 +36,30 @@ take_front : (blocks : List LineBlock) → IsFront blocks (take 1 blocks)
 take_front [] = record { rest = []; joined = refl }
 take_front (block ∷ blocks) = record { rest = blocks; joined = refl }
 
--- what one frame writes is a front of what is owed
-pub write-front : (owed blocks : List LineBlock) → IsWrite owed blocks → IsFront owed blocks
-write-front owed blocks write =
+-- what a frame of the first owed blocks writes is a front of what is owed
+pub first-front : (owed blocks : List LineBlock) → IsFirstWrite owed blocks → IsFront owed blocks
+first-front owed blocks first =
     ⊎_elim (λ (alone : blocks ≡ take 1 owed). subst (IsFront owed) (sym alone) (take_front owed))
-    (λ (held : blocks ≡ frame_blocks owed). subst (IsFront owed) (sym held) (beside-front 0 owed)) write.first
+    (λ (held : blocks ≡ frame_blocks owed). subst (IsFront owed) (sym held) (beside-front 0 owed)) first
 
 pub front-all : (P : LineBlock → Type 0) (front rest : List LineBlock) → All P (front ++ rest) → All P front
 front-all P [] rest all = All-nil P
 front-all P (block ∷ front) rest all =
     All-cons P block front (All-head P block (front ++ rest) all) (front-all P front rest (All-tail P block (front ++ rest) all))
+
+-- what holds of each owed block holds of each block that one frame writes
+
+front_of : (P : LineBlock → Type 0) (all blocks : List LineBlock) → All P all → IsFront all blocks → All P blocks
+front_of P all blocks holds front = front-all P blocks front.rest (subst (All P) front.joined holds)
+
+pub further-all : (P : LineBlock → Type 0) (history : History) → All P (owed_blocks history) → All P (further_blocks history)
+further-all P history all = All-filter (λ block. not (is_under_way history block.station block.number)) P (owed_blocks history) all
+
+pub written-all : (P : LineBlock → Type 0) (history : History) (blocks : List LineBlock) → IsWrite history blocks → All P (owed_blocks history) → All P blocks
+written-all P history blocks write all =
+    ⊎_elim (λ (first : IsFirstWrite (owed_blocks history) blocks). front_of P (owed_blocks history) blocks all (first-front (owed_blocks history) blocks first))
+    (λ (further : blocks ≡ frame_blocks (further_blocks history)).
+    front_of P (further_blocks history) blocks (further-all P history all) (subst (IsFront (further_blocks history)) (sym further) (beside-front 0 (further_blocks history)))) write.first
 
 -- it fits
 

@@ -19,7 +19,7 @@ use Rattle.hc_events.specs.Arrivals.{Arrival}
 use Rattle.hc_events.specs.Entries.{HistoryEntry, History, Opened, Edited, Posted, Sent, Wrote, Came, Forgot, Cleared, Unplugged}
 use Rattle.hc_events.specs.Heads.{Block, block_item, same_item}
 use Rattle.hc_events.specs.Holding.{MayHold, cleared_register, held_after_answer, held_after_write, is_unplugged, may_hold}
-use Rattle.hc_events.specs.Owed.{block_among, confirms, is_in_line, is_owed, known_bytes, last_write, owed_blocks}
+use Rattle.hc_events.specs.Owed.{block_among, confirms, is_in_line, is_owed, known_bytes, last_write}
 use Rattle.hc_events.specs.Points.{line_of, state_of}
 use Rattle.hc_events.specs.Ready.{concerns, is_fmmu, may_name, names_among, names_task, registers_outside, serves_task}
 use Rattle.hc_events.specs.ReadyLaws.{spares}
@@ -56,7 +56,7 @@ more_bytes task number held bytes other free =
     (ap (λ b. b || (names_task task bytes || names_among task held)) parts.0 ∙ ap (λ b. b || names_among task held) (other t) ∙ parts.1))
     (λ t. ap (λ b. b && (held.unknown || (names_task task bytes || names_among task held))) t)
 
-wrote_if : (history : History) (blocks : List LineBlock) (task : ℕ) (block : LineBlock) (found : Option LineBlock) → IsProjectAt history → WaitsForNothing history task → IsWrite (owed_blocks history) blocks
+wrote_if : (history : History) (blocks : List LineBlock) (task : ℕ) (block : LineBlock) (found : Option LineBlock) → IsProjectAt history → WaitsForNothing history task → IsWrite history blocks
     → Contains (line_blocks (line_of history)) block → block_among block.station block.number blocks ≡ found → is_owed (Wrote blocks ∷ history) block ≡ true
     → (serves_task (state_of history) task block || may_name task block.number (held_after_write found (may_hold history block.station block.number))) ≡ false
 wrote_if history blocks task block None at none write has is owed =
@@ -75,7 +75,7 @@ wrote_if history blocks task block (Some written) at none write has is owed =
     ap (λ b. b || may_name task block.number (held_after_write (Some written) (may_hold history block.station block.number))) before.0
     ∙ more_bytes task block.number (may_hold history block.station block.number) written.block.bytes other before.1
 
-wrote_free : (history : History) (blocks : List LineBlock) (task : ℕ) → IsProjectAt history → WaitsForNothing history task → IsWrite (owed_blocks history) blocks → WaitsForNothing (Wrote blocks ∷ history) task
+wrote_free : (history : History) (blocks : List LineBlock) (task : ℕ) → IsProjectAt history → WaitsForNothing history task → IsWrite history blocks → WaitsForNothing (Wrote blocks ∷ history) task
 wrote_free history blocks task at none write = record {
   blocks = λ k d low owed.
       let block = slice_index_or (line_blocks (line_of history)) k d in

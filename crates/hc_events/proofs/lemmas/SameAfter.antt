@@ -17,7 +17,7 @@ use Rattle.hc_frames.specs.FrameText.{frame_text, lrw}
 use Rattle.hc_frames.specs.declared.reading.faults.FrameFault.{FrameFault}
 use Rattle.hc_events.specs.declared.answer.Answer.TheVariants as answer
 use Rattle.hc_events.specs.declared.faults.CoreFault.{CoreFault}
-use Rattle.hc_events.specs.declared.faults.CoreFault.TheVariants.{Absent, AlreadyPresent, NoSuchTask, NothingOwed, PostLength, SerialsSpent, StalePost, UnknownStation, Unprogrammed, Waits}
+use Rattle.hc_events.specs.declared.faults.CoreFault.TheVariants.{Absent, AlreadyPresent, NoSuchTask, NothingOwed, PostLength, SerialsSpent, StalePost, UnderWay, UnknownStation, Unprogrammed, Waits}
 use Rattle.hc_events.specs.Faults.{edit_refusal}
 use Rattle.hc_events.specs.Arrivals.{Arrival, arrival_in}
 use Rattle.hc_events.specs.Entries.{HistoryEntry, History, Opened, Edited, Posted, Sent, Wrote, Came, Forgot, Cleared, Unplugged}
@@ -27,16 +27,17 @@ use Rattle.hc_events.specs.Answering.{Judged, Verdict, Good, Wrong, Stale, is_cu
 use Rattle.hc_events.specs.Images.{slot_of, slots_of}
 use Rattle.hc_events.specs.Outputs.{byte_of, bytes_of_bits, has_bit, outputs_in, sent_bit, sent_data, value_bit}
 use Rattle.hc_events.specs.Owed.{is_in_line, is_owed, known_bytes, owed_blocks}
+use Rattle.hc_events.specs.UnderWay.{further_blocks, is_under_way}
 use Rattle.hc_events.specs.Ages.{data_serial}
 use Rattle.hc_events.specs.Steady.{steady_data, task_epoch}
 use Rattle.hc_events.specs.Holding.{is_unplugged, may_hold}
 use Rattle.hc_events.specs.Ready.{concerns, concerns_outside, is_ready, may_name, names_among, registers_outside, serves_task, waited_for, waited_for_outside, with_cleared}
-use Rattle.hc_events.specs.Steps.{Step, Edits, Posts, PostsSteady, SendsTasks, SendsWrite, Arrives, Reads, Forgets, SendsReady, Clears, Unplugs, wait_fault, ready_faults, clear_faults, unplug_faults, unless, unless_fault, forget_faults, edit_refused, edit_answer, is_no_task, is_stale_epoch, post_faults, post_steady_faults, has_serials, serials_left, proposal, task_faults, sent_datagram, sent_text, with_sent, write_faults, sent_write_answer, with_write, write_answer, judged_answer, arrival_answer, with_arrival, read_faults, answer_to, entries_after, answers_to, entries_after_all, SendsWrites, writes_answer, with_writes, judged_blocks_answer}
+use Rattle.hc_events.specs.Steps.{Step, Edits, Posts, PostsSteady, SendsTasks, SendsWrite, Arrives, Reads, Forgets, SendsReady, Clears, Unplugs, wait_fault, ready_faults, clear_faults, unplug_faults, unless, unless_fault, forget_faults, edit_refused, edit_answer, is_no_task, is_stale_epoch, post_faults, post_steady_faults, has_serials, serials_left, proposal, task_faults, sent_datagram, sent_text, with_sent, write_faults, sent_write_answer, with_write, write_answer, judged_answer, arrival_answer, with_arrival, read_faults, answer_to, entries_after, answers_to, entries_after_all, SendsFurther, SendsWrites, further_faults, writes_answer, with_writes, judged_blocks_answer}
 use Rattle.hc_events.specs.Heads.{is_block}
 use Rattle.hc_events.specs.Changes.{updates_of}
 use Rattle.hc_events.specs.Stale.{SameAfter, SaysTheSame, without_stale}
 use Rattle.hc_events.proofs.lemmas.Awaited.{updates}
-use Rattle.hc_events.proofs.lemmas.WithoutStale.{without-date, without-steady, without-task_epoch, without-held, without-unplugged, without-epoch, without-known, without-updates, without-serial, without-slot, without-stale, without-state, without-answer_given, without-value}
+use Rattle.hc_events.proofs.lemmas.WithoutStale.{without-date, without-steady, without-task_epoch, without-held, without-under_way, without-unplugged, without-epoch, without-known, without-updates, without-serial, without-slot, without-stale, without-state, without-answer_given, without-value}
 use Rattle.hc_events.specs.WriteFrames.{frame_blocks}
 
 abbrev pub SameWithout : History → History → Type 0
@@ -51,6 +52,7 @@ same-says a b same = record {
   values = λ variable k. sym (without-value a variable k) ∙ ap (λ history. value_bit history variable k) same ∙ without-value b variable k;
   known = λ station number. sym (without-known a station number) ∙ ap (λ history. known_bytes history station number) same ∙ without-known b station number;
   dates = λ task d. sym (without-date a task d) ∙ ap (λ history. data_serial history task d) same ∙ without-date b task d;
+  under_way = λ station number. sym (without-under_way a station number) ∙ ap (λ history. is_under_way history station number) same ∙ without-under_way b station number;
   held = λ station number. sym (without-held a station number) ∙ ap (λ history. may_hold history station number) same ∙ without-held b station number;
   unplugged = λ station. sym (without-unplugged a station) ∙ ap (λ history. is_unplugged history station) same ∙ without-unplugged b station;
   epochs = λ task. sym (without-task_epoch a task) ∙ ap (λ history. task_epoch history task) same ∙ without-task_epoch b task;
@@ -121,6 +123,11 @@ same-owed a b says =
     filter_alike (is_owed a) (is_owed b) (λ block. ap (λ known. not (option_map_or (bytes_eq block.block.bytes) known false)) (says.known block.station block.number)) (line_blocks (line_of a))
     ∙ ap (λ members. filter (is_owed b) (line_blocks members)) (same-line a b says)
 
+same-further : (a b : History) → SaysTheSame a b → further_blocks a ≡ further_blocks b
+same-further a b says =
+    filter_alike (λ block. not (is_under_way a block.station block.number)) (λ block. not (is_under_way b block.station block.number)) (λ block. ap not (says.under_way block.station block.number)) (owed_blocks a)
+    ∙ ap (filter (λ block. not (is_under_way b block.station block.number))) (same-owed a b says)
+
 same-proposal : (a b : History) (tasks : List ℕ) → SaysTheSame a b → proposal a tasks ≡ proposal b tasks
 same-proposal a b tasks says =
     ap (λ members. sendings_of members (next_serial a) tasks) (same-line a b says) ∙ ap (λ n. sendings_of (line_of b) n tasks) says.serial
@@ -152,6 +159,12 @@ same_write_faults : (a b : History) → SaysTheSame a b → lowest (write_faults
 same_write_faults a b says =
     ap (λ blocks. lowest (write_faults a blocks)) (same-owed a b says)
     ∙ ap (λ n. lowest ((length (owed_blocks b) == 0, NothingOwed) ∷ (not (serials_left n 1), SerialsSpent) ∷ [])) says.serial
+
+same_further_faults : (a b : History) → SaysTheSame a b → lowest (further_faults a) ≡ lowest (further_faults b)
+same_further_faults a b says =
+    ap (λ blocks. lowest ((length blocks == 0, NothingOwed) ∷ (length (further_blocks a) == 0, UnderWay) ∷ (not (has_serials a 1), SerialsSpent) ∷ [])) (same-owed a b says)
+    ∙ ap (λ blocks. lowest ((length (owed_blocks b) == 0, NothingOwed) ∷ (length blocks == 0, UnderWay) ∷ (not (has_serials a 1), SerialsSpent) ∷ [])) (same-further a b says)
+    ∙ ap (λ n. lowest ((length (owed_blocks b) == 0, NothingOwed) ∷ (length (further_blocks b) == 0, UnderWay) ∷ (not (serials_left n 1), SerialsSpent) ∷ [])) says.serial
 
 same_post_faults : (a b : History) (task epoch : ℕ) (bytes : List ℕ) → SaysTheSame a b → lowest (post_faults a task epoch bytes) ≡ lowest (post_faults b task epoch bytes)
 same_post_faults a b task epoch bytes says =
@@ -290,6 +303,11 @@ same-answer a b (SendsReady tasks) same =
     ∙ ap (λ texts. unless (lowest (ready_faults b tasks)) (answer.Sent texts)) (map_alike (sent_text a) (sent_text b) (λ sending. same-text a b sending says) (proposal b tasks))
 same-answer a b (Clears station) same = ap (λ refused. unless refused answer.Cleared) (same_clear_faults a b station (same-says a b same))
 same-answer a b (Unplugs station) same = ap (λ refused. unless refused answer.Unplugged) (same_unplug_faults a b station (same-says a b same))
+same-answer a b SendsFurther same =
+    let says = same-says a b same in
+    ap (λ refused. unless refused (writes_answer (next_serial a) (frame_blocks (further_blocks a)))) (same_further_faults a b says)
+    ∙ ap (λ n. unless (lowest (further_faults b)) (writes_answer n (frame_blocks (further_blocks a)))) says.serial
+    ∙ ap (λ blocks. unless (lowest (further_faults b)) (writes_answer (next_serial b) (frame_blocks blocks))) (same-further a b says)
 
 same_unchanged : (refused : Option CoreFault) (a b c d : History) → SameWithout a b → SameWithout c d → SameWithout (unless_fault refused a c) (unless_fault refused b d)
 same_unchanged None a b c d same next = next
@@ -363,6 +381,12 @@ same-after a b (Clears station) same =
 same-after a b (Unplugs station) same =
     ap (λ refused. without_stale (unless_fault refused a (Unplugged station ∷ a))) (same_unplug_faults a b station (same-says a b same))
     ∙ same_unchanged (lowest (unplug_faults b station)) a b (Unplugged station ∷ a) (Unplugged station ∷ b) same (same-grows (Unplugged station) a b same)
+same-after a b SendsFurther same =
+    let says = same-says a b same in
+    ap (λ refused. without_stale (unless_fault refused a (with_writes a (frame_blocks (further_blocks a))))) (same_further_faults a b says)
+    ∙ ap (λ blocks. without_stale (unless_fault (lowest (further_faults b)) a (with_writes a (frame_blocks blocks)))) (same-further a b says)
+    ∙ same_unchanged (lowest (further_faults b)) a b (with_writes a (frame_blocks (further_blocks b))) (with_writes b (frame_blocks (further_blocks b))) same
+    (same_writes (frame_blocks (further_blocks b)) a b same)
 
 -- lists of events
 

@@ -1,4 +1,4 @@
--- Of two frames of register writes that are awaited the later one is of one block, and the earlier one of more.
+-- Of two frames of the first owed register blocks that are awaited the later one is of one block, and the earlier one of more.
 use Rattle.std.proofs.Common.{◌≡◌, ℕ, ◌<◌, nat_lt, Bool, true, false, cond, ◌&&◌, ◌||◌, List, [], ◌∷◌, ◌++◌, filter, length, take, refl, sym, ap, ◌∙◌, subst, arith, Option, Some, None, ⊎_elim}
 use Rattle.std.specs.Prelude.{All, Contains, is_some, option_map}
 use Rattle.std.specs.List.{list_any}
@@ -19,13 +19,13 @@ use Rattle.hc_events.specs.Answering.{Sending, ends, fits_sending, followed_by, 
 use Rattle.hc_events.specs.Awaited.{all_outdated, awaited, is_write_sending}
 use Rattle.hc_events.specs.Owed.{is_owed, owed_blocks}
 use Rattle.hc_events.specs.WriteFrames.{frame_blocks}
-use Rattle.hc_events.specs.Accepted.{AreAccepted, IsWrite}
+use Rattle.hc_events.specs.Accepted.{AreAccepted, IsFirstWrite, IsWrite, carries_first}
 use Rattle.hc_events.specs.SendingLaws.{heads_of, is_opening, is_sending}
 use Rattle.hc_events.specs.AnswerLaws.{HasOwnNames, IsBesideOne}
 use Rattle.hc_events.proofs.lemmas.Answers.{accepted-at, still_awaited-is, same_line, still_open, written-inside}
 use Rattle.hc_events.proofs.lemmas.Awaited.{same_is}
 use Rattle.hc_events.proofs.lemmas.BlockSizes.{write-fits}
-use Rattle.hc_events.proofs.lemmas.Fronts.{OneName, first-again, front-all, held-again, is_named, write-front}
+use Rattle.hc_events.proofs.lemmas.Fronts.{OneName, first-again, first-front, held-again, is_named, written-all}
 use Rattle.hc_events.proofs.lemmas.Live.{live-owed, others-as_before}
 use Rattle.hc_events.proofs.lemmas.Once.{serial-below, serial-made}
 use Rattle.hc_events.proofs.lemmas.OneWrite.{no_blocks, not-owed_stays}
@@ -103,10 +103,8 @@ line-stays since history serial heads running going = same_line serial heads sin
 abbrev pub InLine : List Member → LineBlock → Type 0
 InLine line block = Contains (line_blocks line) block
 
-pub owed_all : (history : History) (blocks : List LineBlock) → IsWrite (owed_blocks history) blocks → All (λ block. is_owed history block ≡ true) blocks
-owed_all history blocks write =
-    let front = write-front (owed_blocks history) blocks write in
-    front-all (λ block. is_owed history block ≡ true) blocks front.rest (subst (All (λ (block : LineBlock). is_owed history block ≡ true)) front.joined (filter_passes (is_owed history) (line_blocks (line_of history))))
+pub owed_all : (history : History) (blocks : List LineBlock) → IsWrite history blocks → All (λ block. is_owed history block ≡ true) blocks
+owed_all history blocks write = written-all (λ block. is_owed history block ≡ true) history blocks write (filter_passes (is_owed history) (line_blocks (line_of history)))
 
 named_owed : (P : LineBlock → Type 0) (names : OneName P) (p : LineBlock → Bool) (other : LineBlock) → P other → (blocks : List LineBlock) → All P blocks → All (λ block. p block ≡ true) blocks
     → is_named (block_item other) blocks ≡ true → p other ≡ true
@@ -118,7 +116,7 @@ named_owed P names p other known (block ∷ blocks) all passes named =
     (λ t. named_owed P names p other known blocks (All-tail P block blocks all) (All-tail (λ (x : LineBlock). p x ≡ true) block blocks passes)
     (sym (ap (λ b. b || is_named (block_item other) blocks) t) ∙ named))
 
-pub wrote-owes : (history : History) (blocks : List LineBlock) (other : LineBlock) → OneName (InLine (line_of history)) → IsWrite (owed_blocks history) blocks → InLine (line_of history) other
+pub wrote-owes : (history : History) (blocks : List LineBlock) (other : LineBlock) → OneName (InLine (line_of history)) → IsWrite history blocks → InLine (line_of history) other
     → is_owed (Wrote blocks ∷ history) other ≡ true → is_owed history other ≡ true
 wrote-owes history blocks other names write known owed =
     by_bool (sends (block_item other) (Wrote blocks))
@@ -130,6 +128,20 @@ came_owes history arrival other owed =
     by_bool (is_owed history other)
     (λ t. t)
     (λ t. let never : true ≡ false = sym owed ∙ not-owed_stays history arrival other t in cc)
+
+-- a frame that carries the first owed blocks, where it was sent
+
+carries-before : (since : List HistoryEntry) (history : History) (serial : ℕ) → list_any is_opening since ≡ false → carries_first (since ++ history) serial → carries_first history serial
+carries-before [] history serial running carries = carries
+carries-before (Opened groups ∷ since) history serial running carries = cc
+carries-before (Edited edit ∷ since) history serial running carries = carries-before since history serial running carries
+carries-before (Posted task bytes ∷ since) history serial running carries = carries-before since history serial running carries
+carries-before (Came arrival ∷ since) history serial running carries = carries-before since history serial running carries
+carries-before (Forgot station ∷ since) history serial running carries = carries-before since history serial running carries
+carries-before (Cleared station ∷ since) history serial running carries = carries-before since history serial running carries
+carries-before (Unplugged station ∷ since) history serial running carries = carries-before since history serial running carries
+carries-before (Sent frame ∷ since) history serial running carries = carries-before since history serial running carries
+carries-before (Wrote blocks ∷ since) history serial running carries = carries-before since history serial running carries.1
 
 -- what is owed was owed before, as long as no edit was accepted since and no slave forgotten
 
@@ -250,6 +262,7 @@ record AreTwo (history : History) (low high : ℕ) (older newer : Sending) : Typ
   before : History
   blocks : List LineBlock
   split : history ≡ later ++ Wrote blocks ∷ before
+  high_is : next_serial before ≡ high
   heads : newer.heads ≡ write_heads blocks
   running : list_any is_opening later ≡ false
   going : list_any (ends high newer.heads) later ≡ false
@@ -295,6 +308,7 @@ are_two history low high older newer less e w f v =
       before = at.before;
       blocks = at.blocks;
       split = at.split;
+      high_is = at.serial_is;
       heads = sym new_heads ∙ at.heads;
       running = at.running;
       going = ap (λ heads. list_any (ends high heads) later) (sym new_heads) ∙ new.goes_on;
@@ -319,16 +333,16 @@ one_of (block ∷ blocks) some = refl
 more_than : (n : ℕ) → 0 < n → (n ≡ 1 → ⊥) → 1 < n
 more_than n some other = omega arith
 
-is_beside : (history : History) (low high : ℕ) (older newer : Sending) → AreAccepted history → OneName (InLine (line_of history)) → AreTwo history low high older newer → IsBesideOne older newer
-is_beside history low high older newer all names two =
+is_beside : (history : History) (low high : ℕ) (older newer : Sending) → AreAccepted history → OneName (InLine (line_of history)) → carries_first history low → carries_first history high → AreTwo history low high older newer → IsBesideOne older newer
+is_beside history low high older newer all names carries_low carries_high two =
     let line_then : line_of history ≡ line_of two.before = ap line_of two.split ∙ line-stays two.later (Wrote two.blocks ∷ two.before) high newer.heads two.running two.going in
     let going_since = (or_parts (ends low older.heads (Wrote two.blocks)) (list_any (ends low older.heads) two.since) (last_part (ends low older.heads) two.later (Wrote two.blocks ∷ two.since) two.going_first)).1 in
     let line_first : line_of two.before ≡ line_of two.first = ap line_of two.split_first ∙ line-stays two.since (Wrote two.own ∷ two.first) low older.heads two.running_first going_since in
     let all_later : AreAccepted (two.later ++ Wrote two.blocks ∷ two.before) = subst AreAccepted two.split all in
     let all_then : AreAccepted two.before = (accepted-after_it two.later (Wrote two.blocks ∷ two.before) two.running all_later).1 in
-    let written : IsWrite (owed_blocks two.before) two.blocks = accepted-at two.later two.before (Wrote two.blocks) two.running refl all_later in
+    let written : IsWrite two.before two.blocks = accepted-at two.later two.before (Wrote two.blocks) two.running refl all_later in
     let all_first : AreAccepted (two.since ++ Wrote two.own ∷ two.first) = subst AreAccepted two.split_first all_then in
-    let first_written : IsWrite (owed_blocks two.first) two.own = accepted-at two.since two.first (Wrote two.own) two.running_first refl all_first in
+    let first_written : IsWrite two.first two.own = accepted-at two.since two.first (Wrote two.own) two.running_first refl all_first in
     let members = line_of two.first in
     let line = line_blocks members in
     let P = InLine members in
@@ -341,6 +355,11 @@ is_beside history low high older newer all names two =
     ap (λ n. list_any (ends n (write_heads two.own)) two.since) two.serial_is ∙ ap (λ heads. list_any (ends low heads) two.since) (sym two.own_heads) ∙ going_since in
     let owed : is_owed two.before live.block ≡ true =
     ap (λ entries. is_owed entries live.block) two.split_first ∙ live-owed two.since two.first two.own live.block live.sent two.running_first going_own left.live in
+    let low_then : carries_first two.before low = (carries-before two.later (Wrote two.blocks ∷ two.before) low two.running (subst (λ entries. carries_first entries low) two.split carries_low)).1 in
+    let own_first : IsFirstWrite (owed_blocks two.first) two.own =
+    (carries-before two.since (Wrote two.own ∷ two.first) low two.running_first (subst (λ entries. carries_first entries low) two.split_first low_then)).0 two.serial_is in
+    let first_owed : IsFirstWrite (owed_blocks two.before) two.blocks =
+    (carries-before two.later (Wrote two.blocks ∷ two.before) high two.running (subst (λ entries. carries_first entries high) two.split carries_high)).0 two.high_is in
     let p = is_owed two.first in
     let q = is_owed two.before in
     let less : (x : LineBlock) → P x → q x ≡ true → p x ≡ true = λ x known now.
@@ -348,7 +367,7 @@ is_beside history low high older newer all names two =
     (owed-shrinks two.since (Wrote two.own ∷ two.first) low older.heads x names_first two.running_first going_since left.none all_first known (sym (ap (λ entries. is_owed entries x) two.split_first) ∙ now)) in
     let owed_then : owed_blocks two.before ≡ filter q line = ap (λ m. filter q (line_blocks m)) line_first in
     let named : is_named item (filter q line) ≡ true = named-passing q live.block owed line live.known in
-    let front = write-front (owed_blocks two.first) two.own first_written in
+    let front = first-front (owed_blocks two.first) two.own own_first in
     let inside : All P line = All-contains_itself line in
     let again : (blocks : List LineBlock) → blocks ≡ two.blocks → is_named item blocks ≡ true → ⊥ = λ blocks same is.
     let never : true ≡ false = sym is ∙ ap (is_named item) same ∙ left.again in cc in
@@ -356,7 +375,7 @@ is_beside history low high older newer all names two =
     ⊎_elim (λ (one : two.blocks ≡ take 1 (owed_blocks two.before)). one)
     (λ (held : two.blocks ≡ frame_blocks (owed_blocks two.before)). absurd (again (frame_blocks (filter q line)) (sym (ap frame_blocks owed_then) ∙ sym held)
     (held-again P names_first p q less item 0 line two.own front.rest inside front.joined (write-fits two.first two.own first_written) live.sent named)))
-    written.first in
+    first_owed in
     let single : length two.blocks ≡ 1 = ap length alone ∙ one_of (owed_blocks two.before) (subst (λ blocks. 0 < length blocks) alone written.some) in
     let several : 1 < length two.own = more_than (length two.own) first_written.some
     (λ one. again (take 1 (filter q line)) (sym (ap (take 1) owed_then) ∙ sym alone)
@@ -366,6 +385,6 @@ is_beside history low high older newer all names two =
       more = subst (λ n. 1 < n) (sym (ap length two.own_heads ∙ length-map two.own write_head)) several;
     }
 
-pub two-writes : (history : History) (low high : ℕ) (older newer : Sending) → AreAccepted history → HasOwnNames (line_of history) → low < high → awaited history low ≡ Some older → is_write_sending older ≡ true
+pub two-writes : (history : History) (low high : ℕ) (older newer : Sending) → AreAccepted history → HasOwnNames (line_of history) → carries_first history low → carries_first history high → low < high → awaited history low ≡ Some older → is_write_sending older ≡ true
     → awaited history high ≡ Some newer → is_write_sending newer ≡ true → IsBesideOne older newer
-two-writes history low high older newer all names less e w f v = is_beside history low high older newer all names (are_two history low high older newer less e w f v)
+two-writes history low high older newer all names carries_low carries_high less e w f v = is_beside history low high older newer all names carries_low carries_high (are_two history low high older newer less e w f v)

@@ -23,7 +23,7 @@ use Rattle.hc_events.specs.Arrivals.{Arrival}
 use Rattle.hc_events.specs.Entries.{History, Opened, Edited, Posted, Sent, Wrote, Came, Forgot, Cleared, Unplugged}
 use Rattle.hc_events.specs.Heads.{Block, block_item, same_item}
 use Rattle.hc_events.specs.Holding.{MayHold, cleared_register, held_after_answer, held_after_write, may_hold}
-use Rattle.hc_events.specs.Owed.{block_among, confirms, is_in_line, last_write, owed_blocks}
+use Rattle.hc_events.specs.Owed.{block_among, confirms, is_in_line, last_write}
 use Rattle.hc_events.specs.Points.{line_of, state_of}
 use Rattle.hc_events.proofs.lemmas.Accepted.{StaysTrue, held-of_accepted}
 use Rattle.hc_events.proofs.lemmas.Answers.{written-inside}
@@ -64,7 +64,7 @@ block-in_line state block has =
 
 -- so no frame of writes has a block of a slave outside the line, and no arrival confirms one
 
-none_outside : (history : History) (blocks : List LineBlock) (station number : ℕ) (found : Option LineBlock) → IsWrite (owed_blocks history) blocks → is_in_line history station ≡ false → block_among station number blocks ≡ found → found ≡ None
+none_outside : (history : History) (blocks : List LineBlock) (station number : ℕ) (found : Option LineBlock) → IsWrite history blocks → is_in_line history station ≡ false → block_among station number blocks ≡ found → found ≡ None
 none_outside history blocks station number None write out is = refl
 none_outside history blocks station number (Some block) write out is =
     let one = find-is (Contains (line_blocks (line_of history))) (λ other. same_item (Block station number) (block_item other)) blocks block (written-inside history blocks write) is in
@@ -72,7 +72,7 @@ none_outside history blocks station number (Some block) write out is =
     let here : is_in_line history station ≡ true = ap (is_in_line history) same ∙ block-in_line (state_of history) block one.0 in
     let never : true ≡ false = sym here ∙ out in cc
 
-pub wrote-outside : (history : History) (blocks : List LineBlock) (station number : ℕ) → IsWrite (owed_blocks history) blocks → is_in_line history station ≡ false → block_among station number blocks ≡ None
+pub wrote-outside : (history : History) (blocks : List LineBlock) (station number : ℕ) → IsWrite history blocks → is_in_line history station ≡ false → block_among station number blocks ≡ None
 wrote-outside history blocks station number write out = none_outside history blocks station number (block_among station number blocks) write out refl
 
 pub confirmed-outside : (history : History) (arrival : Arrival) (station number : ℕ) → AreAccepted history → is_in_line history station ≡ false → list_any (confirms (Block station number)) (judged_by history arrival) ≡ false

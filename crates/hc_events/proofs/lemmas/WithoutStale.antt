@@ -16,6 +16,7 @@ use Rattle.hc_events.specs.Answering.{Judged, Verdict, Good, Wrong, Stale, is_go
 use Rattle.hc_events.specs.Awaited.{awaited}
 use Rattle.hc_events.specs.Images.{new_answer, new_answer_by, renewed, slot_of}
 use Rattle.hc_events.specs.Outputs.{posted_bit, value_bit}
+use Rattle.hc_events.specs.UnderWay.{is_under_way, is_write_awaited}
 use Rattle.hc_events.specs.Owed.{if_confirmed, is_in_line, known_bytes, last_write, was_confirmed, block_among, confirms, write_of}
 use Rattle.hc_events.specs.Changes.{Answered, Swapped, updates_of}
 use Rattle.hc_events.specs.Stale.{without_stale}
@@ -24,7 +25,7 @@ use Rattle.hc_events.specs.Ages.{data_serial, dated}
 use Rattle.hc_events.specs.Steady.{changes_task, edit_changes, steadied, steady_data, task_epoch}
 use Rattle.hc_events.specs.Holding.{cleared_register, comes, held_after_answer, held_after_coming, held_after_write, is_unplugged, may_hold}
 use Rattle.hc_events.proofs.lemmas.Awaited.{updates, updates_from, awaited-any, awaited-grows, awaited-updates, awaited-stale}
-use Rattle.std.specs.Option.{option_or}
+use Rattle.std.specs.Option.{option_map_or, option_or}
 
 -- definitions that skip arrivals
 
@@ -258,6 +259,16 @@ without-confirmed (Came arrival ∷ history) serial item =
 known_either : (history : History) (item : Item) (write : Option (ℕ × List ℕ)) → option_and_then (if_confirmed (without_stale history) item) write ≡ option_and_then (if_confirmed history item) write
 known_either history item None = refl
 known_either history item (Some write) = ap (λ b. cond b (Some write.1) None) (without-confirmed history write.0 item)
+
+-- the blocks that are under way
+
+under_either : (history : History) (found : Option (ℕ × List ℕ)) → option_map_or (is_write_awaited (without_stale history)) found false ≡ option_map_or (is_write_awaited history) found false
+under_either history None = refl
+under_either history (Some write) = ap is_some (without-awaited history write.0)
+
+pub without-under_way : (history : History) (station number : ℕ) → is_under_way (without_stale history) station number ≡ is_under_way history station number
+without-under_way history station number =
+    ap (λ found. option_map_or (is_write_awaited (without_stale history)) found false) (without-write history station number) ∙ under_either history (last_write history station number)
 
 pub without-known : (history : History) (station number : ℕ) → known_bytes (without_stale history) station number ≡ known_bytes history station number
 without-known history station number =

@@ -1,5 +1,5 @@
-//! What follows from the definitions of ready tasks and of what registers may hold: each function here does nothing,
-//! and its contract is a law that holds of every record. Nobody calls it.
+//! Laws of ready tasks and of registers' possible contents. Each function does nothing, and its contract is a law that holds
+//! for every record. Nobody calls it.
 ghost use Rattle.hc_events.specs.ReadyLaws.{BothEventsSendAlike, ClearedSlavesHoldUpTheirOwn, KnownIsHeld, MasksSayTheirTasks, NamedTasksAreServed, ReadyFramesAreFound, ReadyStaysReady, ReadyTasksHaveNoHolder, ReadyWhereNothingIsOwed, SlavesOutsideHoldStill, SlavesOutsideHoldUpTheirTasks, UntouchedStaysReady};
 
 /// A task is ready if nothing is owed and no register of a slave outside the line concerns it.
@@ -42,8 +42,8 @@ pub fn ready_stays_ready()
     ensures { ReadyStaysReady }
 {}
 
-/// In a project's line, until the next edit, a slave that was cleared holds up no task but those of its own areas: it may
-/// never answer, its blocks may be written again and again, and it may be forgotten.
+/// In a project's line, until the next edit, a slave that was cleared holds up no task but those of its own areas: it may never
+/// answer, its blocks may be written again and again, and it may be lost.
 pub fn cleared_slaves_hold_up_their_own()
     ensures { ClearedSlavesHoldUpTheirOwn }
 {}

@@ -1,8 +1,8 @@
-//! What follows from the definitions of tasks over edits that do not change them: each function here does nothing, and its
-//! contract is a law that holds of every record. Nobody calls it.
+//! Laws of tasks over edits that do not change them. Each function does nothing, and its contract is a law that holds for every
+//! record. Nobody calls it.
 ghost use Rattle.hc_events.specs.SteadyLaws.{AcceptedPostsAreSteady, EditsMoveTaskEpochs, EditsOfOthersChangeNoTask, PostsOfTheEpochAreAlike, SameLinesChangeNoTask, SlotsAreSteady, SteadyDataFit, SteadyDataOfTheEpochAreSlots, SteadyPostsAreAccepted, SteadyPostsAreStale, TaskEpochsAreBounded, UnchangedTasksAreUndisturbed};
 
-/// An edit that leaves the line changes no task: a remap or a move to what there is, and a declared group.
+/// An edit that leaves the line unchanged changes no task: a remap or a move to what there is, and a declared group.
 pub fn same_lines_change_no_task()
     ensures { SameLinesChangeNoTask }
 {}
@@ -65,8 +65,8 @@ pub fn unchanged_tasks_are_undisturbed()
     ensures { UnchangedTasksAreUndisturbed }
 {}
 
-/// In a project an edit that leaves the areas of a task, each in the same slave, does not change the task: a group that
-/// comes or goes without an area in the task, and a move or a remap of an area of other tasks.
+/// In a project an edit that leaves the areas of a task, each in the same slave, does not change the task: connecting or
+/// disconnecting a group without an area in the task, and a move or a remap of an area of other tasks.
 pub fn edits_of_others_change_no_task()
     ensures { EditsOfOthersChangeNoTask }
 {}

@@ -8,8 +8,8 @@ use Rattle.hc_records.specs.Line.{Member, State, line}
 use Rattle.hc_registers.specs.Blocks.{fmmu_bytes}
 use Rattle.hc_machine.specs.Fmmus.{fmmu_block_at}
 use Rattle.hc_machine.specs.Laws.{IsPair}
-use Rattle.hc_exchange.specs.Pairs.{AreasPair, IsMapped}
-use Rattle.hc_exchange.specs.Carrying.{AreCarrying, CarriesAsked, IsReadyMachine}
+use Rattle.hc_exchange.specs.Pairs.{LinePairs, IsMapped}
+use Rattle.hc_exchange.specs.Carrying.{AreCarrying, CarriesAsked, IsProgrammedMachine}
 use Rattle.hc_exchange.specs.AskedLaws.{LessAskedCarries, ProgrammedLinesCarry}
 use Rattle.hc_exchange.proofs.lemmas.Members.{KeepsLine, one-station, slave-of, stays-line}
 use Rattle.hc_exchange.proofs.lemmas.Programmed.{AreaIsThere, SlaveFmmu, area-is_placed, slave-fmmu}
@@ -42,7 +42,7 @@ index-low line member i area stays has found =
 
 -- and the area that is to carry such a bit has its block
 pub asked-area : {Asked : ℕ → Type 0} (line : List Member) (member : Member) (memory : List ℕ) (x m : ℕ) → KeepsLine line → Contains line member → CarriesAsked Asked line member memory → Asked x
-    → (pairs : AreasPair line member.slave.station x m) → AreaIsThere memory pairs.index pairs.area pairs.mapping
+    → (pairs : LinePairs line member.slave.station x m) → AreaIsThere memory pairs.index pairs.area pairs.mapping
 asked-area line member memory x m stays has carrying asked pairs =
     let is = pairs.is_mapped in
     let one : pairs.member ≡ member = one-station line pairs.member member stays is.in_line has pairs.station_is in
@@ -51,10 +51,10 @@ asked-area line member memory x m stays has carrying asked pairs =
 
 -- a programmed slave carries any bits
 
-pub ready-carries : {Asked : ℕ → Type 0} (line : List Member) (member : Member) (memory : List ℕ) → KeepsLine line → Contains line member → IsReadyMachine line member memory
+pub programmed-carries : {Asked : ℕ → Type 0} (line : List Member) (member : Member) (memory : List ℕ) → KeepsLine line → Contains line member → IsProgrammedMachine line member memory
     → CarriesAsked Asked line member memory
-ready-carries line member memory stays has ready =
-    let programmed = ready.programmed in
+programmed-carries line member memory stays has machine =
+    let programmed = machine.programmed in
     record {
       size = programmed.machine.size;
       own = λ i x m area mapping asked is pair.
@@ -62,14 +62,14 @@ ready-carries line member memory stays has ready =
       foreign = λ i x m low asked pair.
           let fmmu = slave-fmmu line member memory i x m stays has programmed low pair in
           (fmmu.area, fmmu.mapping, fmmu.is, fmmu.is_placed);
-      all_bytes = ready.all_bytes;
+      all_bytes = machine.all_bytes;
     }
 
 pub programmed-carry : (Asked : ℕ → Type 0) (state : State) → ProgrammedLinesCarry Asked state
 programmed-carry Asked state machines can are = record {
   count = are.count;
   each = λ k member memory is is'.
-      ready-carries (line state) member memory (stays-line state can) (k, slice_get_within (line state) k member is, get_or_from_slice_get (line state) k member member is) (are.each k member memory is is');
+      programmed-carries (line state) member memory (stays-line state can) (k, slice_get_within (line state) k member is, get_or_from_slice_get (line state) k member member is) (are.each k member memory is is');
 }
 
 pub fewer-carry : (Asked Fewer : ℕ → Type 0) (line : List Member) (machines : List (List ℕ)) → ((x : ℕ) → Fewer x → Asked x) → AreCarrying Asked line machines → AreCarrying Fewer line machines

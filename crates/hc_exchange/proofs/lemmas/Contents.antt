@@ -179,7 +179,7 @@ pub record IsSound (history : History) : Type 0 where
 abbrev Sound : History → Type 0
 Sound history = IsConfigurable (opened (opened_with history)) → IsSound history
 
-among-content : (history : History) (blocks : List LineBlock) (station index : ℕ) (block : LineBlock) → IsConfigurable (state_of history) → IsWrite (owed_blocks history) blocks
+among-content : (history : History) (blocks : List LineBlock) (station index : ℕ) (block : LineBlock) → IsConfigurable (state_of history) → IsWrite history blocks
     → block_among station (2 * index + 1) blocks ≡ Some block → IsAreaContent block.block.bytes
 among-content history blocks station index block can accepted among =
     let own = find-is (Contains (line_blocks (line_of history))) (λ (other : LineBlock). same_item (Block station (2 * index + 1)) (block_item other)) blocks block (written-inside history blocks accepted) among in

@@ -38,7 +38,7 @@ use Rattle.hc_exchange.proofs.lemmas.Listed.{areas-mapped}
 use Rattle.hc_exchange.proofs.lemmas.Members.{IsGoodPlace, area-inside, stays-line, one-station}
 use Rattle.hc_exchange.proofs.lemmas.Places.{logical-answer_given, mapped-place, place-widths}
 use Rattle.hc_exchange.specs.AskedLaws.{TaskCountersAreExpected}
-use Rattle.hc_exchange.specs.Carrying.{CarriesAsked, CarriesPair, IsBitOfTask, count_through}
+use Rattle.hc_exchange.specs.Carrying.{CarriesAsked, LinePairsIn, IsBitOfTask, count_through}
 use Rattle.hc_exchange.specs.FrameLaws.{CountersAreExpected}
 use Rattle.hc_exchange.proofs.lemmas.Asked.{programmed-carry}
 use Rattle.hc_exchange.proofs.lemmas.Lines.{IsCarrier, all-carriers}
@@ -47,7 +47,7 @@ use Rattle.hc_exchange.proofs.lemmas.Slaves.{carried-reads, carried-writes, read
 -- an area of the line that has a bit in the datagram says that its slave counts there
 
 in-datagram : (state : State) (task datagram : ℕ) (member : Member) (dir : Dir) (bit m : ℕ) → IsConfigurable state → LineHasDatagram (line state) task datagram → Contains (line state) member
-    → bit < 8 * datagram_length (task_places task (line state)) datagram → CarriesPair (line state) dir member.slave.station (8 * logical_address task datagram + bit) m
+    → bit < 8 * datagram_length (task_places task (line state)) datagram → LinePairsIn (line state) dir member.slave.station (8 * logical_address task datagram + bit) m
     → list_any (area_is_of member.rank dir) (map (λ (area : Placed). area.key) (inside datagram (task_places task (line state)))) ≡ true
 in-datagram state task datagram member dir bit m can is has low carries =
     let members = line state in
@@ -86,7 +86,7 @@ record HasBit (line : List Member) (dir : Dir) (station from bits : ℕ) : Type 
   bit : ℕ
   m : ℕ
   below : bit < bits
-  carries : CarriesPair line dir station (from + bit) m
+  carries : LinePairsIn line dir station (from + bit) m
 
 has-bit : (state : State) (task datagram : ℕ) (member : Member) (dir : Dir) → IsConfigurable state → Contains (line state) member
     → list_any (area_is_of member.rank dir) (map (λ (area : Placed). area.key) (inside datagram (task_places task (line state)))) ≡ true

@@ -32,46 +32,53 @@ fields area mapping phys fits =
       activate = refl;
     }
 
--- the first bit of a block, the one after its last, and its first memory bit, by the fields
+-- the first bit of a block, its last, and its first memory bit, by the fields
 
 first-bit : (address bit start low : ℕ) → start ≡ address + bit / 8 → low ≡ bit % 8 → 8 * start + low % 8 ≡ 8 * address + bit
 first-bit address bit start low is is_low = omega arith
 
-end-bit : (address bit bits start size high : ℕ) → 0 < bits → start ≡ address + bit / 8 → size ≡ (bit + bits - 1) / 8 - bit / 8 + 1 → high ≡ (bit + bits - 1) % 8
-    → 8 * (start + size) + high % 8 ≡ 8 * address + bit + bits + 7
-end-bit address bit bits start size high some is is_size is_high = omega arith
+last-bit : (address bit bits start size high : ℕ) → 0 < bits → start ≡ address + bit / 8 → size ≡ (bit + bits - 1) / 8 - bit / 8 + 1 → high ≡ (bit + bits - 1) % 8
+    → (1 ≤ size) × (8 * (start + size - 1) + high % 8 + 1 ≡ 8 * address + bit + bits)
+last-bit address bit bits start size high some is is_size is_high = (omega arith, omega arith)
 
 memory-bit : (phys physical low : ℕ) → physical ≡ phys → low ≡ 0 → 8 * physical + low % 8 ≡ 8 * phys
 memory-bit phys physical low is is_low = omega arith
 
 -- bits from `first` on, as many as there are, with memory bits from `memory` on
 
-to-area : (first bits memory x m : ℕ) → first ≤ x → x + 8 ≤ first + bits + 7 → m + first ≡ x + memory → (x - first < bits) × (x ≡ first + (x - first)) × (m ≡ memory + (x - first))
+to-area : (first bits memory x m : ℕ) → first ≤ x → x < first + bits → m + first ≡ x + memory → (x - first < bits) × (x ≡ first + (x - first)) × (m ≡ memory + (x - first))
 to-area first bits memory x m low high paired = (omega arith, omega arith, omega arith)
 
-from-area : (first bits memory x m k : ℕ) → k < bits → x ≡ first + k → m ≡ memory + k → (first ≤ x) × (x + 8 ≤ first + bits + 7) × (m + first ≡ x + memory)
+from-area : (first bits memory x m k : ℕ) → k < bits → x ≡ first + k → m ≡ memory + k → (first ≤ x) × (x < first + bits) × (m + first ≡ x + memory)
 from-area first bits memory x m k below is is_m = (omega arith, omega arith, omega arith)
+
+below-next : (x n : ℕ) → x ≤ n → x < n + 1
+below-next x n low = omega arith
+
+not-above : (x n : ℕ) → x < n + 1 → x ≤ n
+not-above x n low = omega arith
 
 -- a pair of a block whose bits these are
 
 read-pair : (block : List ℕ) (first bits memory x m : ℕ) → 8 * long_at block 0 + slice_index block 6 % 8 ≡ first
-    → 8 * (long_at block 0 + word_at block 4) + slice_index block 7 % 8 ≡ first + bits + 7 → 8 * word_at block 8 + slice_index block 10 % 8 ≡ memory
+    → 8 * (long_at block 0 + word_at block 4 - 1) + slice_index block 7 % 8 + 1 ≡ first + bits → 8 * word_at block 8 + slice_index block 10 % 8 ≡ memory
     → IsPair block x m → (x - first < bits) × (x ≡ first + (x - first)) × (m ≡ memory + (x - first))
-read-pair block first bits memory x m is is_end is_memory pair =
+read-pair block first bits memory x m is is_last is_memory pair =
     let low : first ≤ x = subst (λ (n : ℕ). n ≤ x) is pair.first in
-    let high : x + 8 ≤ first + bits + 7 = subst (λ (n : ℕ). x + 8 ≤ n) is_end pair.last in
+    let high : x < first + bits = subst (λ (n : ℕ). x < n) is_last (below-next x _ pair.last) in
     let paired : m + first ≡ x + memory = ap (λ (n : ℕ). m + n) (sym is) ∙ pair.paired ∙ ap (λ (n : ℕ). x + n) is_memory in
     to-area first bits memory x m low high paired
 
 made-pair : (block : List ℕ) (first bits memory x m k : ℕ) → 8 * long_at block 0 + slice_index block 6 % 8 ≡ first
-    → 8 * (long_at block 0 + word_at block 4) + slice_index block 7 % 8 ≡ first + bits + 7 → 8 * word_at block 8 + slice_index block 10 % 8 ≡ memory
+    → 1 ≤ word_at block 4 → 8 * (long_at block 0 + word_at block 4 - 1) + slice_index block 7 % 8 + 1 ≡ first + bits → 8 * word_at block 8 + slice_index block 10 % 8 ≡ memory
     → is_active block ≡ true → memory + bits ≤ MEMORY_BITS → k < bits → x ≡ first + k → m ≡ memory + k → IsPair block x m
-made-pair block first bits memory x m k is is_end is_memory active inside below is_x is_m =
+made-pair block first bits memory x m k is some is_last is_memory active inside below is_x is_m =
     let bounds = from-area first bits memory x m k below is_x is_m in
     record {
       active = active;
       first = subst (λ (n : ℕ). n ≤ x) (sym is) bounds.0;
-      last = subst (λ (n : ℕ). x + 8 ≤ n) (sym is_end) bounds.1;
+      some = some;
+      last = not-above x _ (subst (λ (n : ℕ). x < n) (sym is_last) bounds.1);
       paired = ap (λ (n : ℕ). m + n) is ∙ bounds.2 ∙ ap (λ (n : ℕ). x + n) (sym is_memory);
       inside = omega arith;
     }
@@ -84,14 +91,14 @@ block-pairs area mapping x m inside fits =
     let read = fields area mapping (omega arith) fits in
     let block : List ℕ = mapped_bytes area mapping in
     let first = first-bit mapping.address mapping.bit (long_at block 0) (slice_index block 6) read.logical_start_address read.logical_start_bit in
-    let end =
-    end-bit mapping.address mapping.bit bits (long_at block 0) (word_at block 4) (slice_index block 7) some read.logical_start_address read.length read.logical_stop_bit in
+    let last =
+    last-bit mapping.address mapping.bit bits (long_at block 0) (word_at block 4) (slice_index block 7) some read.logical_start_address read.length read.logical_stop_bit in
     let memory = memory-bit area.phys (word_at block 8) (slice_index block 10) read.physical_start_address read.physical_start_bit in (
       λ pair.
-          let answer_given = read-pair block (8 * mapping.address + mapping.bit) bits (8 * area.phys) x m first end memory pair in
+          let answer_given = read-pair block (8 * mapping.address + mapping.bit) bits (8 * area.phys) x m first last.1 memory pair in
           record { k = x - (8 * mapping.address + mapping.bit); below = answer_given.0; logical = answer_given.1; memory = answer_given.2 },
       λ pair.
-          made-pair block (8 * mapping.address + mapping.bit) bits (8 * area.phys) x m pair.k first end memory refl within pair.below pair.logical pair.memory,
+          made-pair block (8 * mapping.address + mapping.bit) bits (8 * area.phys) x m pair.k first last.0 last.1 memory refl within pair.below pair.logical pair.memory,
     )
 
 pub block-unmapped : UnmappedAreasPairNothing

@@ -1,5 +1,5 @@
 -- The frames of a record: each can be carried.
-use Rattle.std.proofs.Common.{◌≡◌, ℕ, ◌+◌, ◌^◌, ◌<◌, ◌≤◌, true, cond, List, [], ◌∷◌, length, length-append, map, refl, sym, ap, subst, arith}
+use Rattle.std.proofs.Common.{◌≡◌, ℕ, ◌+◌, ◌^◌, ◌<◌, ◌≤◌, true, cond, not, List, [], ◌∷◌, length, length-append, map, refl, sym, ap, ⊎_elim, subst, arith}
 use Rattle.std.specs.Prelude.{All, AllPairs, sum_by}
 use Rattle.std.specs.List.{flat_map}
 use Rattle.std.proofs.lemmas.List.Elements.{All-cons, All-contains, All-filter, All-head, All-nil, All-tail, All-weaker}
@@ -21,17 +21,18 @@ use Rattle.hc_frames.specs.FrameText.{WireDatagram, lrw, sent_on_wire}
 use Rattle.hc_frames.specs.Laws.{CanBeCarried}
 use Rattle.hc_frames.specs.Returned.{FitsLine}
 use Rattle.hc_frames.specs.Sizes.{text_size}
-use Rattle.hc_events.specs.Accepted.{IsFrame, IsInLine, IsWrite}
+use Rattle.hc_events.specs.Accepted.{IsFirstWrite, IsFrame, IsInLine, IsWrite}
 use Rattle.hc_events.specs.Entries.{History}
 use Rattle.hc_events.specs.Outputs.{sent_data}
 use Rattle.hc_events.specs.Owed.{is_owed, owed_blocks}
 use Rattle.hc_events.specs.Points.{line_of, state_of}
 use Rattle.hc_events.specs.Sendings.{Frame, Named, frame_joined, frame_of_one, framed, framed_after, has_room, line_data_length, sendings_of, task_datagrams}
 use Rattle.hc_events.specs.Steps.{proposal, sent_datagram}
-use Rattle.hc_events.specs.WriteFrames.{block_bytes, block_datagram, blocks_bytes}
+use Rattle.hc_events.specs.WriteFrames.{block_bytes, block_datagram, blocks_bytes, frame_blocks}
 use Rattle.hc_events.proofs.lemmas.Answers.{written-inside}
 use Rattle.hc_events.proofs.lemmas.BlockSizes.{write-few, write-fits}
-use Rattle.hc_events.proofs.lemmas.Fronts.{front-all, write-front}
+use Rattle.hc_events.specs.UnderWay.{further_blocks, is_under_way}
+use Rattle.hc_events.proofs.lemmas.Fronts.{IsFront, beside-front, first-front, written-all}
 use Rattle.hc_events.proofs.lemmas.SentBits.{sent-data}
 use Rattle.hc_plan.proofs.lemmas.AreaKeys.{HasArea, placed-areas}
 use Rattle.hc_plan.proofs.lemmas.Elements.{contains-unmapped}
@@ -47,15 +48,24 @@ use Rattle.hc_exchange.proofs.lemmas.Programmed.{all-own, all-plain}
 
 -- register writes
 
-pub writes-of_line : (history : History) (blocks : List LineBlock) → IsConfigurable (state_of history) → All (λ member. member.slave.station < 65536) (line_of history) → IsWrite (owed_blocks history) blocks
+apart_if : (history : History) (blocks : List LineBlock) → IsWrite history blocks → AllPairs OwnApart (owed_blocks history) → AllPairs OwnApart blocks
+apart_if history blocks accepted all =
+    ⊎_elim (λ (first : IsFirstWrite (owed_blocks history) blocks).
+    let front = first-front (owed_blocks history) blocks first in
+    AllPairs-append_left OwnApart blocks front.rest (subst (AllPairs OwnApart) front.joined all))
+    (λ (further : blocks ≡ frame_blocks (further_blocks history)).
+    let front = subst (IsFront (further_blocks history)) (sym further) (beside-front 0 (further_blocks history)) in
+    AllPairs-append_left OwnApart blocks front.rest
+    (subst (AllPairs OwnApart) front.joined (AllPairs-filter OwnApart (λ (block : LineBlock). not (is_under_way history block.station block.number)) (owed_blocks history) all))) accepted.first
+
+pub writes-of_line : (history : History) (blocks : List LineBlock) → IsConfigurable (state_of history) → All (λ member. member.slave.station < 65536) (line_of history) → IsWrite history blocks
     → AreOfLine (line_of history) blocks
 writes-of_line history blocks can low accepted =
     let members = line_of history in
     let stays = stays-line (state_of history) can in
-    let front = write-front (owed_blocks history) blocks accepted in
     record {
-      plain = front-all IsPlain blocks front.rest (subst (All IsPlain) front.joined (All-filter (is_owed history) IsPlain (line_blocks members) (all-plain members stays low)));
-      apart = AllPairs-append_left OwnApart blocks front.rest (subst (AllPairs OwnApart) front.joined (AllPairs-filter OwnApart (is_owed history) (line_blocks members) (all-own members stays)));
+      plain = written-all IsPlain history blocks accepted (All-filter (is_owed history) IsPlain (line_blocks members) (all-plain members stays low));
+      apart = apart_if history blocks accepted (AllPairs-filter OwnApart (is_owed history) (line_blocks members) (all-own members stays));
       inside = written-inside history blocks accepted;
     }
 
@@ -84,7 +94,7 @@ length-writes : (blocks : List LineBlock) → length (map sent_on_wire (map bloc
 length-writes [] = refl
 length-writes (block ∷ blocks) = let rest = length-writes blocks in omega arith
 
-pub writes-carried : (history : History) (blocks : List LineBlock) (serial : ℕ) → serial < 2 ^ 40 → All IsPlain blocks → IsWrite (owed_blocks history) blocks
+pub writes-carried : (history : History) (blocks : List LineBlock) (serial : ℕ) → serial < 2 ^ 40 → All IsPlain blocks → IsWrite history blocks
     → CanBeCarried serial (map sent_on_wire (map block_datagram blocks))
 writes-carried history blocks serial low plain accepted = record {
   some = omega (arith, accepted.some, length-writes blocks);
@@ -93,7 +103,7 @@ writes-carried history blocks serial low plain accepted = record {
   within = omega (arith, write-fits history blocks accepted, writes-text blocks);
 }
 
-pub writes-few : (history : History) (blocks : List LineBlock) → IsWrite (owed_blocks history) blocks → 0 + length blocks ≤ 2 ^ 40
+pub writes-few : (history : History) (blocks : List LineBlock) → IsWrite history blocks → 0 + length blocks ≤ 2 ^ 40
 writes-few history blocks accepted = omega (arith, write-few history blocks accepted)
 
 -- logical datagrams

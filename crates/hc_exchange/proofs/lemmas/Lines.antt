@@ -11,12 +11,12 @@ use Rattle.hc_records.proofs.lemmas.Lists.{AllPairs-head, AllPairs-tail}
 use Rattle.hc_records.proofs.lemmas.Choices.{contains-first, contains-later}
 use Rattle.hc_machine.specs.Logical.{logical_data, logical_memory}
 use Rattle.hc_exchange.proofs.lemmas.Members.{KeepsLine, stays-line, one-station}
-use Rattle.hc_exchange.specs.Carrying.{AreAsked, AreCarrying, CarriesAsked, CarriesPair, IsReadyMachine, data_through, memories_after}
+use Rattle.hc_exchange.specs.Carrying.{AreAsked, AreCarrying, CarriesAsked, LinePairsIn, IsProgrammedMachine, data_through, memories_after}
 use Rattle.hc_exchange.specs.CarryingLaws.{InputsAreBroughtBack, LinesStayProgrammed, Meets, OtherBitsComeBack, OtherMemoryStays, OutputsArrive}
 use Rattle.hc_exchange.specs.AskedLaws.{AskedInputsAreBroughtBack, AskedOutputsArrive, LinesStayCarrying, MeetsCarrying, MemoryBesideAskedStays, OtherAskedBitsComeBack}
 use Rattle.hc_machine.proofs.lemmas.Memories.{length-data}
 use Rattle.hc_exchange.proofs.lemmas.Asked.{programmed-carry}
-use Rattle.hc_exchange.proofs.lemmas.Slaves.{bit-arrived, bit-brought, bit-unchanged, bit-left, no-two-ways, one-carrier, stays-carrying, stays-ready}
+use Rattle.hc_exchange.proofs.lemmas.Slaves.{bit-arrived, bit-brought, bit-unchanged, bit-left, no-two-ways, one-carrier, stays-carrying, stays-programmed}
 
 -- slaves of a line and their machines, one by one
 
@@ -58,7 +58,7 @@ same-asked Asked memory bytes from asked bit low = asked bit (omega (arith, low,
 -- a bit that no slave here reads comes back as it was
 
 abbrev ReadsNone : List Member → ℕ → Member → Type 0
-ReadsNone line x member = (m : ℕ) → ¬ (CarriesPair line In member.slave.station x m)
+ReadsNone line x member = (m : ℕ) → ¬ (LinePairsIn line In member.slave.station x m)
 
 left-through : (Asked : ℕ → Type 0) (line : List Member) (members : List Member) (machines : List (List ℕ)) (from bit : ℕ) (bytes : List ℕ) → KeepsLine line → AllZip (IsCarrier Asked line) members machines → AreAsked Asked from bytes
     → bit < 8 * length bytes → ((member : Member) → Contains line member → Contains members member → ReadsNone line (from + bit) member)
@@ -75,14 +75,14 @@ left-through Asked line (member ∷ members) (memory ∷ machines) from bit byte
 -- one that a slave reads is that slave's
 brought-through : (Asked : ℕ → Type 0) (line : List Member) (members : List Member) (machines : List (List ℕ)) (k : ℕ) (member : Member) (memory : List ℕ) (from bit m : ℕ) (bytes : List ℕ) → KeepsLine line
     → AllZip (IsCarrier Asked line) members machines → AreAsked Asked from bytes → AllPairs (λ a b. a.rank < b.rank) members → slice_get members k ≡ Some member → slice_get machines k ≡ Some memory
-    → bit < 8 * length bytes → CarriesPair line In member.slave.station (from + bit) m → bit_of (data_through machines from bytes) bit ≡ bit_of memory m
+    → bit < 8 * length bytes → LinePairsIn line In member.slave.station (from + bit) m → bit_of (data_through machines from bytes) bit ≡ bit_of memory m
 brought-through Asked line [] machines k member memory from bit m bytes stays are_placed asked ranks is is' low input = cc
 brought-through Asked line (first ∷ members) [] k member memory from bit m bytes stays are_placed asked ranks is is' low input = cc
 brought-through Asked line (first ∷ members) (own ∷ machines) zero member memory from bit m bytes stays are_placed asked ranks is is' low input =
     let one : first ≡ member = cc in
     let same : own ≡ memory = cc in
     let has = are_placed.0.in_line in
-    let here : CarriesPair line In first.slave.station (from + bit) m = subst (λ (slave : Member). CarriesPair line In slave.slave.station (from + bit) m) (sym one) input in
+    let here : LinePairsIn line In first.slave.station (from + bit) m = subst (λ (slave : Member). LinePairsIn line In slave.slave.station (from + bit) m) (sym one) input in
     left-through Asked line members machines from bit (logical_data own from bytes) stays are_placed.1 (same-asked Asked own bytes from asked) (same-low own bytes from bit low)
     (λ other in_line within n reads.
     let stations = (one-carrier line first.slave.station other.slave.station (from + bit) m n stays here.areas reads.areas).0 in
@@ -98,13 +98,13 @@ brought-through Asked line (first ∷ members) (own ∷ machines) (suc k) member
 -- an output's bit reaches its slave as it was sent
 arrived-through : (Asked : ℕ → Type 0) (line : List Member) (members : List Member) (machines : List (List ℕ)) (k : ℕ) (member : Member) (memory' : List ℕ) (from bit m : ℕ) (bytes : List ℕ) → KeepsLine line
     → AllZip (IsCarrier Asked line) members machines → AreAsked Asked from bytes → slice_get members k ≡ Some member → slice_get (memories_after machines from bytes) k ≡ Some memory'
-    → bit < 8 * length bytes → CarriesPair line Out member.slave.station (from + bit) m → bit_of memory' m ≡ bit_of bytes bit
+    → bit < 8 * length bytes → LinePairsIn line Out member.slave.station (from + bit) m → bit_of memory' m ≡ bit_of bytes bit
 arrived-through Asked line [] machines k member memory' from bit m bytes stays are_placed asked is is' low output = cc
 arrived-through Asked line (first ∷ members) [] k member memory' from bit m bytes stays are_placed asked is is' low output = cc
 arrived-through Asked line (first ∷ members) (own ∷ machines) zero member memory' from bit m bytes stays are_placed asked is is' low output =
     let one : first ≡ member = cc in
     let same : logical_memory own from bytes ≡ memory' = cc in
-    let here : CarriesPair line Out first.slave.station (from + bit) m = subst (λ (slave : Member). CarriesPair line Out slave.slave.station (from + bit) m) (sym one) output in
+    let here : LinePairsIn line Out first.slave.station (from + bit) m = subst (λ (slave : Member). LinePairsIn line Out slave.slave.station (from + bit) m) (sym one) output in
     ap (λ (xs : List ℕ). bit_of xs m) (sym same) ∙ bit-arrived line first own bytes from bit m stays are_placed.0.in_line are_placed.0.own asked low here
 arrived-through Asked line (first ∷ members) (own ∷ machines) (suc k) member memory' from bit m bytes stays are_placed asked is is' low output =
     arrived-through Asked line members machines k member memory' from bit m (logical_data own from bytes) stays are_placed.1 (same-asked Asked own bytes from asked) is is' (same-low own bytes from bit low) output
@@ -114,7 +114,7 @@ arrived-through Asked line (first ∷ members) (own ∷ machines) (suc k) member
 -- and the rest of its memory stays
 unchanged-through : (Asked : ℕ → Type 0) (line : List Member) (members : List Member) (machines : List (List ℕ)) (k : ℕ) (member : Member) (memory memory' : List ℕ) (from m : ℕ) (bytes : List ℕ) → KeepsLine line
     → AllZip (IsCarrier Asked line) members machines → AreAsked Asked from bytes → slice_get members k ≡ Some member → slice_get machines k ≡ Some memory → slice_get (memories_after machines from bytes) k ≡ Some memory'
-    → m < 98304 → ((bit : ℕ) → bit < 8 * length bytes → ¬ (CarriesPair line Out member.slave.station (from + bit) m)) → bit_of memory' m ≡ bit_of memory m
+    → m < 98304 → ((bit : ℕ) → bit < 8 * length bytes → ¬ (LinePairsIn line Out member.slave.station (from + bit) m)) → bit_of memory' m ≡ bit_of memory m
 unchanged-through Asked line [] machines k member memory memory' from m bytes stays are_placed asked is own_is is' low none = cc
 unchanged-through Asked line (first ∷ members) [] k member memory memory' from m bytes stays are_placed asked is own_is is' low none = cc
 unchanged-through Asked line (first ∷ members) (own ∷ machines) zero member memory memory' from m bytes stays are_placed asked is own_is is' low none =
@@ -123,7 +123,7 @@ unchanged-through Asked line (first ∷ members) (own ∷ machines) zero member 
     let same : logical_memory own from bytes ≡ memory' = cc in
     ap (λ (xs : List ℕ). bit_of xs m) (sym same)
     ∙ bit-unchanged line first own bytes from m stays are_placed.0.in_line are_placed.0.own asked low
-    (λ bit inside output. none bit inside (subst (λ (slave : Member). CarriesPair line Out slave.slave.station (from + bit) m) one output))
+    (λ bit inside output. none bit inside (subst (λ (slave : Member). LinePairsIn line Out slave.slave.station (from + bit) m) one output))
     ∙ ap (λ (xs : List ℕ). bit_of xs m) own_same
 unchanged-through Asked line (first ∷ members) (own ∷ machines) (suc k) member memory memory' from m bytes stays are_placed asked is own_is is' low none =
     unchanged-through Asked line members machines k member memory memory' from m (logical_data own from bytes) stays are_placed.1 (same-asked Asked own bytes from asked) is own_is is' low
@@ -224,8 +224,8 @@ line-stays state machines bytes from can are =
       programmed = record {
         count = length-after_it machines from bytes ∙ are.count;
         each = λ k member memory is is'.
-            stable-through (IsReadyMachine members) members members machines k member memory from bytes
-            (λ slave before bytes' has ready long. stays-ready members slave before bytes' from stays has ready)
-            (all-placed (IsReadyMachine members) members machines are.count are.each) is is';
+            stable-through (IsProgrammedMachine members) members members machines k member memory from bytes
+            (λ slave before bytes' has ready long. stays-programmed members slave before bytes' from stays has ready)
+            (all-placed (IsProgrammedMachine members) members machines are.count are.each) is is';
       };
     }

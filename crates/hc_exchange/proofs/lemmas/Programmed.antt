@@ -15,8 +15,8 @@ use Rattle.hc_registers.specs.Blocks.{LineBlock, RegisterBlock, area_blocks, fmm
 use Rattle.hc_machine.specs.Fmmus.{fmmu_block_at}
 use Rattle.hc_machine.specs.Laws.{IsPair}
 use Rattle.hc_exchange.specs.PairLaws.{IsConfigurable}
-use Rattle.hc_exchange.specs.Pairs.{AreasPair, IsAreaPair, IsMapped, member_area_key}
-use Rattle.hc_exchange.specs.Writing.{AreMachinesOf, ChangesBlocksAlone, IsMachineOf, IsProgrammed, SlavePairs}
+use Rattle.hc_exchange.specs.Pairs.{LinePairs, IsAreaPair, IsMapped, member_area_key}
+use Rattle.hc_exchange.specs.Writing.{AreMachinesOf, ChangesBlocksAlone, IsMachineOf, IsProgrammed, MachinePairs}
 use Rattle.hc_exchange.specs.WritingLaws.{ProgrammedSlavesPairTheirAreas, WritingKeepsBytes, WritingKeepsTheCount, WritingProgramsTheLine, machines_written}
 use Rattle.hc_exchange.proofs.Blocks.{Leaves, OwnApart, block-byte, blocks-stay, blocks_after}
 use Rattle.hc_exchange.proofs.lemmas.Members.{KeepsLine, area-inside, stays-line, one-station, slave-of}
@@ -131,7 +131,7 @@ slave-block : (line : List Member) (member : Member) (memory : List ℕ) (block 
 slave-block line member memory block stays_so has plain machine within =
     let station = member.slave.station in
     let blocks = line_blocks line in
-    let stays = blocks-stay memory station blocks machine.size machine.ready.station plain in
+    let stays = blocks-stay memory station blocks machine.size machine.programmable.station plain in
     let sized = source-sized line member block stays_so has (All-contains (Source line member) (slave_blocks line member) block (slave-sources line member) within) in
     let to = sized.to in
     let long = stays.size in
@@ -140,7 +140,7 @@ slave-block line member memory block stays_so has plain machine within =
     range-is (blocks_after memory blocks) block.bytes block.register (omega arith)
     (λ i low.
     let back : block.register + i - block.register ≡ i = omega arith in
-    block-byte memory station blocks entry (block.register + i) machine.size machine.ready.station plain (all-own line stays_so) own.1 refl (omega arith) (omega arith)
+    block-byte memory station blocks entry (block.register + i) machine.size machine.programmable.station plain (all-own line stays_so) own.1 refl (omega arith) (omega arith)
     ∙ ap (λ (n : ℕ). get_or block.bytes n 0) back)
 
 -- a byte that none of the slave's blocks takes
@@ -156,7 +156,7 @@ untaken line member r stays_so has misses =
 changed-alone : (line : List Member) (member : Member) (memory : List ℕ) → KeepsLine line → Contains line member → All IsPlain (line_blocks line) → IsMachineOf member memory
     → ChangesBlocksAlone memory (blocks_after memory (line_blocks line))
 changed-alone line member memory stays_so has plain machine r outside =
-    (blocks-stay memory member.slave.station (line_blocks line) machine.size machine.ready.station plain).outside r
+    (blocks-stay memory member.slave.station (line_blocks line) machine.size machine.programmable.station plain).outside r
     (untaken line member r stays_so has (λ block source. misses (source-sized line member block stays_so has source) outside))
   where
     misses : {block : RegisterBlock} → IsSized block → (r < 1536) ⊎ (4096 ≤ r) → Misses block.register (length block.bytes) r
@@ -179,13 +179,13 @@ unused-stays : (line : List Member) (member : Member) (memory : List ℕ) (i : �
     → length member.slave.areas ≤ i → i < 16 → fmmu_block_at (blocks_after memory (line_blocks line)) i ≡ replicate 16 0
 unused-stays line member memory i stays_so has plain machine history low =
     let blocks = line_blocks line in
-    let stays = blocks-stay memory member.slave.station blocks machine.size machine.ready.station plain in
+    let stays = blocks-stay memory member.slave.station blocks machine.size machine.programmable.station plain in
     let at = 1536 + 16 * i in
     let long = stays.size in
     range-is (blocks_after memory blocks) (replicate 16 0) at (omega arith)
     (λ j below. stays.outside (at + j) (untaken line member (at + j) stays_so has (λ block source. history-areas line member i (at + j) block history (omega arith) (omega arith) source))
     ∙ sym (get_or-drop at memory j 0) ∙ sym (get_or-take (at + 16 - at) (drop at memory) j 0 (omega arith))
-    ∙ ap (λ (block : List ℕ). get_or block j 0) (machine.ready.unused i history low))
+    ∙ ap (λ (block : List ℕ). get_or block j 0) (machine.programmable.unused i history low))
 
 -- each machine of a line is its slave's
 
@@ -222,13 +222,13 @@ writing-programs state machines k member memory can are in_line in_machines =
     let plain = all-plain members stays_so (addresses-low members machines are) in
     let machine = are.each k member memory in_line in_machines in
     let has : Contains members member = (k, slice_get_within members k member in_line, get_or_from_slice_get members k member member in_line) in
-    let stays = blocks-stay memory member.slave.station blocks machine.size machine.ready.station plain in
+    let stays = blocks-stay memory member.slave.station blocks machine.size machine.programmable.station plain in
     record {
       written = blocks_after memory blocks;
       is_placed = ap (λ (xs : List (List ℕ)). slice_get xs k) (machines-after_it state machines can are) ∙ slice_get-map (λ m. blocks_after m blocks) machines k
           ∙ ap (option_map (λ m. blocks_after m blocks)) in_machines;
       programmed = record {
-        machine = record { size = stays.size; address = machine.address; ready = record { station = stays.station_is; unused = λ i history low. unused-stays members member memory i stays_so has plain machine history low } };
+        machine = record { size = stays.size; address = machine.address; programmable = record { station = stays.station_is; unused = λ i history low. unused-stays members member memory i stays_so has plain machine history low } };
         blocks = λ block within. slave-block members member memory block stays_so has plain machine within;
       };
       unchanged = changed-alone members member memory stays_so has plain machine;
@@ -287,10 +287,10 @@ slave-fmmu line member memory i x m stays_so has programmed low pair = by (slice
           is_placed = is_placed ∙ ap (fmmu_bytes area) answer_given.1;
           pair = answer_given.2;
         }
-    by (inr history) = absurd (none-zero x m (subst (λ (block : List ℕ). IsPair block x m) (programmed.machine.ready.unused i history.0 low) pair))
+    by (inr history) = absurd (none-zero x m (subst (λ (block : List ℕ). IsPair block x m) (programmed.machine.programmable.unused i history.0 low) pair))
 
-slave-to-areas : (line : List Member) (member : Member) (memory : List ℕ) (x m : ℕ) → KeepsLine line → Contains line member → IsProgrammed line member memory → SlavePairs memory x m
-    → AreasPair line member.slave.station x m
+slave-to-areas : (line : List Member) (member : Member) (memory : List ℕ) (x m : ℕ) → KeepsLine line → Contains line member → IsProgrammed line member memory → MachinePairs memory x m
+    → LinePairs line member.slave.station x m
 slave-to-areas line member memory x m stays_so has programmed pairs =
     let answer_given = slave-fmmu line member memory pairs.fmmu x m stays_so has programmed pairs.below pairs.pair in
     record { member = member; index = pairs.fmmu; area = answer_given.area; mapping = answer_given.mapping; station_is = refl; is_mapped = answer_given.is; pair = answer_given.pair }
@@ -301,7 +301,7 @@ pub record AreaIsThere (memory : List ℕ) (index : ℕ) (area : Area) (mapping 
   pub is_placed : fmmu_block_at memory index ≡ mapped_bytes area mapping
 
 pub area-is_placed : (line : List Member) (member : Member) (memory : List ℕ) (x m : ℕ) → KeepsLine line → Contains line member → IsProgrammed line member memory
-    → (pairs : AreasPair line member.slave.station x m) → AreaIsThere memory pairs.index pairs.area pairs.mapping
+    → (pairs : LinePairs line member.slave.station x m) → AreaIsThere memory pairs.index pairs.area pairs.mapping
 area-is_placed line member memory x m stays_so has programmed pairs =
     let is = pairs.is_mapped in
     let one : member ≡ pairs.member = sym (one-station line pairs.member member stays_so is.in_line has pairs.station_is) in
@@ -311,7 +311,7 @@ area-is_placed line member memory x m stays_so has programmed pairs =
     record { below = omega arith; is_placed = fmmu-is_placed line pairs.member memory pairs.index pairs.area own is.in_record ∙ ap (fmmu_bytes pairs.area) is.mapped }
 
 areas-to-slave : (line : List Member) (member : Member) (memory : List ℕ) (x m : ℕ) → KeepsLine line → Contains line member → IsProgrammed line member memory
-    → AreasPair line member.slave.station x m → SlavePairs memory x m
+    → LinePairs line member.slave.station x m → MachinePairs memory x m
 areas-to-slave line member memory x m stays_so has programmed pairs =
     let answer_given = area-is_placed line member memory x m stays_so has programmed pairs in
     let is = pairs.is_mapped in

@@ -8,15 +8,15 @@ use Rattle.hc_exchange.specs.PairLaws.{IsConfigurable}
 use Rattle.hc_exchange.specs.Writing.{AreMachinesOf, IsProgrammed}
 use Rattle.hc_exchange.specs.WritingLaws.{machines_written}
 use Rattle.hc_exchange.proofs.lemmas.Programmed.{writing-bytes, writing-counts, writing-programs}
-use Rattle.hc_exchange.specs.Carrying.{IsReadyMachine}
+use Rattle.hc_exchange.specs.Carrying.{IsProgrammedMachine}
 use Rattle.hc_exchange.specs.CarryingLaws.{WrittenLinesAreProgrammed}
 
-ready-at : (state : State) (machines : List (List ℕ)) (k : ℕ) (member : Member) (memory' : List ℕ) → IsConfigurable state → AreMachinesOf (line state) machines → All AreBytes machines
-    → slice_get (line state) k ≡ Some member → slice_get (machines_written (line state) machines) k ≡ Some memory' → IsReadyMachine (line state) member memory'
-ready-at state machines k member memory' can are small is is' = by (slice_get_cases machines k).1
+programmed-at : (state : State) (machines : List (List ℕ)) (k : ℕ) (member : Member) (memory' : List ℕ) → IsConfigurable state → AreMachinesOf (line state) machines → All AreBytes machines
+    → slice_get (line state) k ≡ Some member → slice_get (machines_written (line state) machines) k ≡ Some memory' → IsProgrammedMachine (line state) member memory'
+programmed-at state machines k member memory' can are small is is' = by (slice_get_cases machines k).1
   where
     by : ((memory : List ℕ) × (k < length machines) × (slice_get machines k ≡ Some memory) × (get_or machines k memory ≡ memory)) ⊎ ((length machines ≤ k) × (slice_get machines k ≡ None))
-        → IsReadyMachine (line state) member memory'
+        → IsProgrammedMachine (line state) member memory'
     by (inl found) =
         let written = writing-programs state machines k member found.0 can are is found.2 in
         let equal : Some written.written ≡ Some memory' = sym written.is_placed ∙ is' in
@@ -35,5 +35,5 @@ ready-at state machines k member memory' can are small is is' = by (slice_get_ca
 pub written-programmed : WrittenLinesAreProgrammed
 written-programmed state machines can are small = record {
   count = writing-counts state machines can are ∙ are.count;
-  each = λ k member memory is is'. ready-at state machines k member memory can are small is is';
+  each = λ k member memory is is'. programmed-at state machines k member memory can are small is is';
 }

@@ -170,7 +170,7 @@ line-task history task member memory of_record ready has holds = record {
         by_bool (is_owed history (fmmu_line_block (line_of history) member i area))
         (λ t. absurd (owed i x m area found.2 asked pair t))
         (λ t. free i x m area found.2 asked (subst (λ (block : List ℕ). IsPair block x m) (free-holds history member memory i area has found.2 holds t) pair))
-    other i x m low asked pair (inr outer) = absurd (none-zero x m (subst (λ (block : List ℕ). IsPair block x m) (holds.machine.ready.unused i outer.0 low) pair))
+    other i x m low asked pair (inr outer) = absurd (none-zero x m (subst (λ (block : List ℕ). IsPair block x m) (holds.machine.programmable.unused i outer.0 low) pair))
 
 -- a machine outside the line
 

@@ -34,9 +34,9 @@ pub machine-same : (member : Member) (memory memory' : List ℕ) → IsMachineOf
 machine-same member memory memory' machine same = record {
   size = same.size;
   address = machine.address;
-  ready = record {
-    station = ap₂ (λ (m n : ℕ). m + 256 * n) (same.same 16 (omega arith)) (same.same 17 (omega arith)) ∙ machine.ready.station;
-    unused = λ i outer low. block-same memory memory' i low machine.size same.size same.same ∙ machine.ready.unused i outer low;
+  programmable = record {
+    station = ap₂ (λ (m n : ℕ). m + 256 * n) (same.same 16 (omega arith)) (same.same 17 (omega arith)) ∙ machine.programmable.station;
+    unused = λ i outer low. block-same memory memory' i low machine.size same.size same.same ∙ machine.programmable.unused i outer low;
   };
 }
 
@@ -104,5 +104,5 @@ held-high passed history member memory sound takes known i x m low pair = elim (
     | inr there ↦ content-high (fmmu_block_at memory i) x m
         (All-contains IsAreaContent (may_hold history member.slave.station (2 * i + 1)).contents (fmmu_block_at memory i) (sound.contents member.slave.station i) there) pair
   ]
-  | inr outer ↦ absurd (none-zero x m (subst (λ (block : List ℕ). IsPair block x m) (takes.machine.ready.unused i outer.0 low) pair))
+  | inr outer ↦ absurd (none-zero x m (subst (λ (block : List ℕ). IsPair block x m) (takes.machine.programmable.unused i outer.0 low) pair))
 ]

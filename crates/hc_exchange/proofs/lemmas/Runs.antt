@@ -158,7 +158,7 @@ stays-takes passed history edit member member' memory can accepted has has' same
       machine = record {
         size = own.machine.size;
         address = subst (λ (s : ℕ). s < 65536) (sym same) own.machine.address;
-        ready = record { station = own.machine.ready.station ∙ sym same; unused = λ i outer low. own.machine.ready.unused i (omega arith) low };
+        programmable = record { station = own.machine.programmable.station ∙ sym same; unused = λ i outer low. own.machine.programmable.unused i (omega arith) low };
       };
       all_bytes = own.all_bytes;
       taken = λ block' write there last whole.

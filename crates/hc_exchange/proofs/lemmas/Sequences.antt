@@ -10,23 +10,23 @@ use Rattle.hc_records.specs.Line.{Member, State, line}
 use Rattle.hc_records.proofs.lemmas.Lists.{AllPairs-head, AllPairs-tail}
 use Rattle.hc_registers.specs.declared.fmmu.Mapping.{Mapping}
 use Rattle.hc_registers.specs.Blocks.{mapping_of}
-use Rattle.hc_exchange.specs.Pairs.{AreasPair, member_area_key}
+use Rattle.hc_exchange.specs.Pairs.{LinePairs, member_area_key}
 use Rattle.hc_exchange.proofs.lemmas.Members.{KeepsLine, area-in-memory, area-inside, area-width, stays-line, one-index, one-station}
-use Rattle.hc_exchange.specs.Carrying.{AreAsked, CarriesPair, data_through, memories_after}
+use Rattle.hc_exchange.specs.Carrying.{AreAsked, LinePairsIn, data_through, memories_after}
 use Rattle.hc_exchange.specs.AskedLaws.{AllAreAsked, AllAskedInputsAreBroughtBack, AllAskedOutputsArrive, MeetsCarrying, MemoryBesideAllAskedStays, SequencesKeepCarrying}
 use Rattle.hc_exchange.specs.Sequences.{AllInputsAreBroughtBack, AllOtherMemoryStays, AllOutputsArrive, LogicalsAreApart, Logical, SequencesKeepTheLine}
 use Rattle.hc_exchange.proofs.lemmas.Lines.{AnyBit, asked-inputs, asked-memory, asked-outputs, carrying-stays, length-after_it, line-stays, meets-any}
 
 -- a memory bit of a slave has one area, and so one logical bit and one direction
 
-record SamePair (line : List Member) (station x y m : ℕ) (p : AreasPair line station x m) (q : AreasPair line station y m) : Type 0 where
+record SamePair (line : List Member) (station x y m : ℕ) (p : LinePairs line station x m) (q : LinePairs line station y m) : Type 0 where
   logical : x ≡ y
   direction : p.area.dir ≡ q.area.dir
 
 same-bit : (first k l m phys x y : ℕ) → m ≡ phys + k → m ≡ phys + l → x ≡ first + k → y ≡ first + l → x ≡ y
 same-bit first k l m phys x y is is' at_x at_y = omega arith
 
-same-pair : (line : List Member) (station x y m : ℕ) → KeepsLine line → (p : AreasPair line station x m) → (q : AreasPair line station y m) → SamePair line station x y m p q
+same-pair : (line : List Member) (station x y m : ℕ) → KeepsLine line → (p : LinePairs line station x m) → (q : LinePairs line station y m) → SamePair line station x y m p q
 same-pair line station x y m stays p q =
     let is = p.is_mapped in
     let is' = q.is_mapped in
@@ -48,13 +48,13 @@ same-pair line station x y m stays p q =
       direction = ap (λ (a : Area). a.dir) area;
     }
 
-no-two-uses : (line : List Member) (station x y m : ℕ) → KeepsLine line → CarriesPair line In station x m → CarriesPair line Out station y m → ⊥
+no-two-uses : (line : List Member) (station x y m : ℕ) → KeepsLine line → LinePairsIn line In station x m → LinePairsIn line Out station y m → ⊥
 no-two-uses line station x y m stays input output =
     let same = (same-pair line station x y m stays input.areas output.areas).direction in
     let ways : In ≡ Out = sym input.direction ∙ same ∙ output.direction in
     cc
 
-bit-inside : (line : List Member) (station x m : ℕ) → KeepsLine line → AreasPair line station x m → m < 98304
+bit-inside : (line : List Member) (station x m : ℕ) → KeepsLine line → LinePairs line station x m → m < 98304
 bit-inside line station x m stays p =
     let is = p.is_mapped in
     let end =
@@ -129,7 +129,7 @@ asked-all-outputs Asked state machines k member memory memory' (first ∷ ds) ze
     let at : Some first ≡ Some d = has.is in
     let one : d ≡ first = cc in
     let below : bit < 8 * length first.bytes = subst (λ (x : Logical). bit < 8 * length x.bytes) one has.below in
-    let own : CarriesPair members Out member.slave.station (first.from + bit) m = subst (λ (x : Logical). CarriesPair members Out member.slave.station (x.from + bit) m) one output in
+    let own : LinePairsIn members Out member.slave.station (first.from + bit) m = subst (λ (x : Logical). LinePairsIn members Out member.slave.station (x.from + bit) m) one output in
     let memory1 = get_or (memories_after machines first.from first.bytes) k memory in
     asked-all-memory Asked state (memories_after machines first.from first.bytes) k member memory1 memory' ds m (meets-next Asked state machines k member memory first now meets)
     (rest-asked Asked first ds asked) (bit-inside members member.slave.station (first.from + bit) m stays own.areas)

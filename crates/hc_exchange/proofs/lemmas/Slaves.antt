@@ -14,20 +14,20 @@ use Rattle.hc_machine.specs.Laws.{IsPair, Reads, FmmuWrites}
 use Rattle.hc_machine.specs.Logical.{logical_data, logical_memory}
 use Rattle.hc_machine.proofs.lemmas.Logical.{read-from-memory, unread-stays, unwritten-stays, written-from-data}
 use Rattle.hc_plan.proofs.lemmas.AreaKeys.{one-rank}
-use Rattle.hc_exchange.specs.Pairs.{AreasPair}
+use Rattle.hc_exchange.specs.Pairs.{LinePairs}
 use Rattle.hc_exchange.proofs.lemmas.Decoded.{block-way}
 use Rattle.hc_exchange.proofs.lemmas.Unchanged.{programmed-unchanged}
 use Rattle.hc_exchange.proofs.lemmas.Members.{KeepsLine, area-inside, one-index}
 use Rattle.hc_exchange.proofs.lemmas.Places.{mapped-place, one-area}
-use Rattle.hc_exchange.proofs.lemmas.Asked.{asked-area, asked-fmmu, carrying-unchanged, ready-carries}
+use Rattle.hc_exchange.proofs.lemmas.Asked.{asked-area, asked-fmmu, carrying-unchanged, programmed-carries}
 use Rattle.hc_exchange.proofs.lemmas.Programmed.{SlaveFmmu}
 use Rattle.hc_exchange.proofs.lemmas.Sources.{mapped-area}
-use Rattle.hc_exchange.specs.Carrying.{AreAsked, CarriesAsked, CarriesPair, IsReadyMachine}
+use Rattle.hc_exchange.specs.Carrying.{AreAsked, CarriesAsked, LinePairsIn, IsProgrammedMachine}
 use Rattle.hc_machine.proofs.lemmas.Memories.{length-memory, memory-bytes, same-byte}
 
 -- a logical bit has one area of one slave
 
-pub one-owner : (line : List Member) (station other x m n : ℕ) → KeepsLine line → (p : AreasPair line station x m) → (q : AreasPair line other x n)
+pub one-owner : (line : List Member) (station other x m n : ℕ) → KeepsLine line → (p : LinePairs line station x m) → (q : LinePairs line other x n)
     → (p.member ≡ q.member) × (p.index ≡ q.index) × (p.area ≡ q.area)
 one-owner line station other x m n stays p q =
     let is = p.is_mapped in
@@ -41,13 +41,13 @@ one-owner line station other x m n stays p q =
     (one, same.1, cc)
 
 -- and so one direction
-pub one-carrier : (line : List Member) (station other x m n : ℕ) → KeepsLine line → (p : AreasPair line station x m) → (q : AreasPair line other x n)
+pub one-carrier : (line : List Member) (station other x m n : ℕ) → KeepsLine line → (p : LinePairs line station x m) → (q : LinePairs line other x n)
     → (station ≡ other) × (p.area.dir ≡ q.area.dir)
 one-carrier line station other x m n stays p q =
     let owner = one-owner line station other x m n stays p q in
     (sym p.station_is ∙ ap (λ (slave : Member). slave.slave.station) owner.0 ∙ q.station_is, ap (λ (a : Area). a.dir) owner.2)
 
-pub no-two-ways : (line : List Member) (station other x m n : ℕ) → KeepsLine line → CarriesPair line Out station x m → CarriesPair line In other x n → ⊥
+pub no-two-ways : (line : List Member) (station other x m n : ℕ) → KeepsLine line → LinePairsIn line Out station x m → LinePairsIn line In other x n → ⊥
 no-two-ways line station other x m n stays output input =
     let same = (one-carrier line station other x m n stays output.areas input.areas).1 in
     let ways : Out ≡ In = sym output.direction ∙ same ∙ input.direction in
@@ -59,11 +59,11 @@ out-way : (dir : Dir) → same_dir dir Out ≡ true → dir ≡ Out
 out-way Out is = refl
 out-way In is = cc
 
-abbrev areas-of : (line : List Member) (member : Member) (memory : List ℕ) (i x m : ℕ) → SlaveFmmu line member memory i x m → AreasPair line member.slave.station x m
+abbrev areas-of : (line : List Member) (member : Member) (memory : List ℕ) (i x m : ℕ) → SlaveFmmu line member memory i x m → LinePairs line member.slave.station x m
 areas-of line member memory i x m fmmu = record { member = member; index = i; area = fmmu.area; mapping = fmmu.mapping; station_is = refl; is_mapped = fmmu.is; pair = fmmu.pair }
 
 pub reads-carried : {Asked : ℕ → Type 0} (line : List Member) (member : Member) (memory : List ℕ) (i x m : ℕ) → KeepsLine line → Contains line member → CarriesAsked Asked line member memory → i < 16
-    → Asked x → Reads memory i x m → CarriesPair line In member.slave.station x m
+    → Asked x → Reads memory i x m → LinePairsIn line In member.slave.station x m
 reads-carried line member memory i x m stays has carrying low asked reads =
     let fmmu = asked-fmmu line member memory i x m stays has carrying low asked reads.1 in
     record {
@@ -72,7 +72,7 @@ reads-carried line member memory i x m stays has carrying low asked reads =
     }
 
 pub writes-carried : {Asked : ℕ → Type 0} (line : List Member) (member : Member) (memory : List ℕ) (i x m : ℕ) → KeepsLine line → Contains line member → CarriesAsked Asked line member memory → i < 16
-    → Asked x → FmmuWrites memory i x m → CarriesPair line Out member.slave.station x m
+    → Asked x → FmmuWrites memory i x m → LinePairsIn line Out member.slave.station x m
 writes-carried line member memory i x m stays has carrying low asked writes =
     let fmmu = asked-fmmu line member memory i x m stays has carrying low asked writes.1 in
     record {
@@ -89,7 +89,7 @@ pub record Serves (memory : List ℕ) (x m : ℕ) (way : List ℕ → Bool) : Ty
   pub pair : IsPair (fmmu_block_at memory fmmu) x m
 
 serves : {Asked : ℕ → Type 0} (line : List Member) (member : Member) (memory : List ℕ) (x m : ℕ) (way : List ℕ → Bool) → KeepsLine line → Contains line member → CarriesAsked Asked line member memory
-    → Asked x → (pairs : AreasPair line member.slave.station x m) → way (mapped_bytes pairs.area pairs.mapping) ≡ true → Serves memory x m way
+    → Asked x → (pairs : LinePairs line member.slave.station x m) → way (mapped_bytes pairs.area pairs.mapping) ≡ true → Serves memory x m way
 serves line member memory x m way stays has carrying asked pairs turned =
     let answer_given = asked-area line member memory x m stays has carrying asked pairs in
     record {
@@ -100,13 +100,13 @@ serves line member memory x m way stays has carrying asked pairs turned =
     }
 
 pub carried-reads : {Asked : ℕ → Type 0} (line : List Member) (member : Member) (memory : List ℕ) (x m : ℕ) → KeepsLine line → Contains line member → CarriesAsked Asked line member memory
-    → Asked x → CarriesPair line In member.slave.station x m → Serves memory x m is_read
+    → Asked x → LinePairsIn line In member.slave.station x m → Serves memory x m is_read
 carried-reads line member memory x m stays has carrying asked input =
     let pairs = input.areas in
     serves line member memory x m is_read stays has carrying asked pairs ((block-way pairs.area pairs.mapping).0 ∙ ap (λ (dir : Dir). same_dir dir In) input.direction)
 
 pub carried-writes : {Asked : ℕ → Type 0} (line : List Member) (member : Member) (memory : List ℕ) (x m : ℕ) → KeepsLine line → Contains line member → CarriesAsked Asked line member memory
-    → Asked x → CarriesPair line Out member.slave.station x m → Serves memory x m is_write_fmmu
+    → Asked x → LinePairsIn line Out member.slave.station x m → Serves memory x m is_write_fmmu
 carried-writes line member memory x m stays has carrying asked output =
     let pairs = output.areas in
     serves line member memory x m is_write_fmmu stays has carrying asked pairs ((block-way pairs.area pairs.mapping).1 ∙ ap (λ (dir : Dir). same_dir dir Out) output.direction)
@@ -131,7 +131,7 @@ one-writer line member memory i j x y m stays has carrying low low' asked asked'
 -- so each bit of the data, and each of memory, is given by the areas
 
 pub bit-brought : {Asked : ℕ → Type 0} (line : List Member) (member : Member) (memory bytes : List ℕ) (from bit m : ℕ) → KeepsLine line → Contains line member → CarriesAsked Asked line member memory
-    → AreAsked Asked from bytes → bit < 8 * length bytes → CarriesPair line In member.slave.station (from + bit) m → bit_of (logical_data memory from bytes) bit ≡ bit_of memory m
+    → AreAsked Asked from bytes → bit < 8 * length bytes → LinePairsIn line In member.slave.station (from + bit) m → bit_of (logical_data memory from bytes) bit ≡ bit_of memory m
 bit-brought line member memory bytes from bit m stays has carrying asked low input =
     let reader = carried-reads line member memory (from + bit) m stays has carrying (asked bit low) input in
     let below = reader.below in
@@ -141,13 +141,13 @@ bit-brought line member memory bytes from bit m stays has carrying asked low inp
     omega arith)
 
 pub bit-left : {Asked : ℕ → Type 0} (line : List Member) (member : Member) (memory bytes : List ℕ) (from bit : ℕ) → KeepsLine line → Contains line member → CarriesAsked Asked line member memory
-    → AreAsked Asked from bytes → bit < 8 * length bytes → ((m : ℕ) → ¬ (CarriesPair line In member.slave.station (from + bit) m))
+    → AreAsked Asked from bytes → bit < 8 * length bytes → ((m : ℕ) → ¬ (LinePairsIn line In member.slave.station (from + bit) m))
     → bit_of (logical_data memory from bytes) bit ≡ bit_of bytes bit
 bit-left line member memory bytes from bit stays has carrying asked low none =
     unread-stays memory bytes from bit low (λ j n below reads. none n (reads-carried line member memory j (from + bit) n stays has carrying below (asked bit low) reads))
 
 -- the memory of an area is process memory
-pub output-high : (line : List Member) (station x m : ℕ) → KeepsLine line → (pairs : AreasPair line station x m) → 32768 ≤ m
+pub output-high : (line : List Member) (station x m : ℕ) → KeepsLine line → (pairs : LinePairs line station x m) → 32768 ≤ m
 output-high line station x m stays pairs =
     let is = pairs.is_mapped in
     let start : 4096 ≤ pairs.area.phys = (area-inside line pairs.member pairs.index pairs.area stays is.in_line is.in_record).start in
@@ -155,7 +155,7 @@ output-high line station x m stays pairs =
     omega arith
 
 pub bit-arrived : {Asked : ℕ → Type 0} (line : List Member) (member : Member) (memory bytes : List ℕ) (from bit m : ℕ) → KeepsLine line → Contains line member → CarriesAsked Asked line member memory
-    → AreAsked Asked from bytes → bit < 8 * length bytes → CarriesPair line Out member.slave.station (from + bit) m → bit_of (logical_memory memory from bytes) m ≡ bit_of bytes bit
+    → AreAsked Asked from bytes → bit < 8 * length bytes → LinePairsIn line Out member.slave.station (from + bit) m → bit_of (logical_memory memory from bytes) m ≡ bit_of bytes bit
 bit-arrived line member memory bytes from bit m stays has carrying asked low output =
     let writer = carried-writes line member memory (from + bit) m stays has carrying (asked bit low) output in
     let high = output-high line member.slave.station (from + bit) m stays output.areas in
@@ -167,7 +167,7 @@ bit-arrived line member memory bytes from bit m stays has carrying asked low out
 
 pub bit-unchanged : {Asked : ℕ → Type 0} (line : List Member) (member : Member) (memory bytes : List ℕ) (from m : ℕ) → KeepsLine line → Contains line member → CarriesAsked Asked line member memory
     → AreAsked Asked from bytes → m < 98304
-    → ((bit : ℕ) → bit < 8 * length bytes → ¬ (CarriesPair line Out member.slave.station (from + bit) m)) → bit_of (logical_memory memory from bytes) m ≡ bit_of memory m
+    → ((bit : ℕ) → bit < 8 * length bytes → ¬ (LinePairsIn line Out member.slave.station (from + bit) m)) → bit_of (logical_memory memory from bytes) m ≡ bit_of memory m
 bit-unchanged line member memory bytes from m stays has carrying asked low none =
     unwritten-stays memory bytes from m carrying.size low
     (λ j n below inside writes. none n inside (writes-carried line member memory j (from + n) m stays has carrying below (asked n inside) writes))
@@ -195,11 +195,11 @@ stays-carrying line member memory bytes from stays has carrying asked =
     carrying-unchanged line member memory (logical_memory memory from bytes) stays has carrying (length-memory memory bytes from ∙ long) (memory-bytes memory bytes from long carrying.all_bytes)
     (λ r low. registers-stay line member memory bytes from r stays has carrying asked low)
 
-pub stays-ready : (line : List Member) (member : Member) (memory bytes : List ℕ) (from : ℕ) → KeepsLine line → Contains line member → IsReadyMachine line member memory
-    → IsReadyMachine line member (logical_memory memory from bytes)
-stays-ready line member memory bytes from stays has ready =
+pub stays-programmed : (line : List Member) (member : Member) (memory bytes : List ℕ) (from : ℕ) → KeepsLine line → Contains line member → IsProgrammedMachine line member memory
+    → IsProgrammedMachine line member (logical_memory memory from bytes)
+stays-programmed line member memory bytes from stays has ready =
     let long = ready.programmed.machine.size in
-    let carrying = ready-carries {Asked = λ x. Unit {0}} line member memory stays has ready in
+    let carrying = programmed-carries {Asked = λ x. Unit {0}} line member memory stays has ready in
     record {
       programmed = programmed-unchanged line member memory (logical_memory memory from bytes) stays has ready.programmed (length-memory memory bytes from ∙ long)
           (λ r low. registers-stay line member memory bytes from r stays has carrying (λ bit inside. tt) low);

@@ -12,7 +12,7 @@ use Rattle.hc_registers.specs.declared.fmmu.Mapping.{Mapping}
 use Rattle.hc_registers.specs.Blocks.{IsMappable, LineBlock, RegisterBlock, area_blocks, fmmu_block, fmmu_bytes, line_blocks, mapped_bytes, mapping_of, member_blocks, slave_blocks, sync_manager_block}
 use Rattle.hc_machine.specs.Laws.{IsPair}
 use Rattle.hc_exchange.specs.PairLaws.{LinesPairTheirAreas}
-use Rattle.hc_exchange.specs.Pairs.{AreasPair, BlocksPair, IsAreaPair, IsBlockPair, IsMapped, LiesInMemory, member_area_key}
+use Rattle.hc_exchange.specs.Pairs.{LinePairs, LineBlockPairs, IsAreaPair, IsBlockPair, IsMapped, LiesInMemory, member_area_key}
 use Rattle.hc_exchange.proofs.lemmas.Decoded.{block-pairs, block-unmapped}
 use Rattle.hc_plan.proofs.lemmas.Elements.{contains-joined, contains-mapped, contains-numbered, numbered-at}
 use Rattle.hc_exchange.proofs.lemmas.Members.{KeepsLine, area-in-memory, area-inside, area-width, stays-line, slave-of}
@@ -146,7 +146,7 @@ fmmu-in-slave line member index area found =
 
 -- slave by slave, the pairs of the blocks are the areas'
 
-blocks-to-areas : (line : List Member) (station x m : ℕ) → KeepsLine line → BlocksPair line station x m → AreasPair line station x m
+blocks-to-areas : (line : List Member) (station x m : ℕ) → KeepsLine line → LineBlockPairs line station x m → LinePairs line station x m
 blocks-to-areas line station x m stays pairs =
     let source = All-contains (IsOfLine line) (line_blocks line) pairs.block (line-sources line) pairs.in_line in
     let answer_given = pair-of line source.member pairs.block x m stays source.in_line source.of_member pairs.pair in
@@ -165,7 +165,7 @@ pub mapped-area : (line : List Member) (member : Member) (index : ℕ) (area : A
 mapped-area line member index area mapping x m stays is pair =
     (block-pairs area mapping x m (in-memory line member index area stays is.in_line is.in_record) (mappable line member index area mapping stays is.in_line is.in_record is.mapped)).1 pair
 
-areas-to-blocks : (line : List Member) (station x m : ℕ) → KeepsLine line → AreasPair line station x m → BlocksPair line station x m
+areas-to-blocks : (line : List Member) (station x m : ℕ) → KeepsLine line → LinePairs line station x m → LineBlockPairs line station x m
 areas-to-blocks line station x m stays pairs =
     let is = pairs.is_mapped in
     let area = pairs.area in

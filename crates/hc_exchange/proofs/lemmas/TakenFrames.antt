@@ -224,7 +224,7 @@ sent-keeps passed history frame wire wire' of_record before takes passes outside
 abbrev IsServed : (ℕ → Bool) → ℕ → List LineBlock → List ℕ → List ℕ → Type 0
 IsServed passed serial blocks m m' = (m' ≡ blocks_after m blocks) ⊎ ((m' ≡ m) × (passed serial ≡ false))
 
-wrote-zip : (passed : ℕ → Bool) (history : History) (blocks : List LineBlock) (wire wire' : List WireMachine) → next_serial history < 2 ^ 40 → All IsPlain blocks → IsWrite (owed_blocks history) blocks
+wrote-zip : (passed : ℕ → Bool) (history : History) (blocks : List LineBlock) (wire wire' : List WireMachine) → next_serial history < 2 ^ 40 → All IsPlain blocks → IsWrite history blocks
     → TakeWrites passed history wire → PassesFront passed history (Wrote blocks) wire wire' → AllZip (IsServed passed (next_serial history) blocks) (line_machines wire) (line_machines wire')
 wrote-zip passed history blocks wire wire' low plain accepted takes passes =
     let serial = next_serial history in
@@ -257,7 +257,7 @@ module _ (passed : ℕ → Bool) (history : History) (blocks : List LineBlock) (
 
   station-of : (block : LineBlock) → Contains (member_blocks (line_of history) member) block → word_at memory 16 ≡ block.station
   station-of block there =
-      own.machine.ready.station ∙ sym (All-contains (IsOfMember (line_of history) member) (member_blocks (line_of history) member) block (member-sources (line_of history) member) there).station_is
+      own.machine.programmable.station ∙ sym (All-contains (IsOfMember (line_of history) member) (member_blocks (line_of history) member) block (member-sources (line_of history) member) there).station_is
 
   taken-yes : (block : LineBlock) (write : ℕ × List ℕ) (found : Option LineBlock) → Contains (member_blocks (line_of history) member) block → block_among block.station block.number blocks ≡ found
       → option_or (option_map (write_of (next_serial history)) found) (last_write history block.station block.number) ≡ Some write → passed write.0 ≡ true
@@ -295,14 +295,14 @@ module _ (passed : ℕ → Bool) (history : History) (blocks : List LineBlock) (
 
   wrote-yes : TakesWrites passed (Wrote blocks ∷ history) member (blocks_after memory blocks)
   wrote-yes =
-      let stays = blocks-stay memory member.slave.station blocks own.machine.size own.machine.ready.station of_line.plain in
+      let stays = blocks-stay memory member.slave.station blocks own.machine.size own.machine.programmable.station of_line.plain in
       record {
         machine = record {
           size = stays.size;
           address = own.machine.address;
-          ready = record {
+          programmable = record {
             station = stays.station_is;
-            unused = λ i outer under. outer-areas (state_of history) member memory blocks i can of_line has own.machine.size own.machine.ready.station outer under ∙ own.machine.ready.unused i outer under;
+            unused = λ i outer under. outer-areas (state_of history) member memory blocks i can of_line has own.machine.size own.machine.programmable.station outer under ∙ own.machine.programmable.unused i outer under;
           };
         };
         all_bytes = memory-small memory blocks own.machine.size of_line.plain own.all_bytes

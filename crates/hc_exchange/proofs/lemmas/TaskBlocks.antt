@@ -17,7 +17,7 @@ use Rattle.hc_machine.specs.Laws.{IsPair}
 use Rattle.hc_segment.specs.Line.{machines_after}
 use Rattle.hc_plan.proofs.lemmas.Elements.{contains-unchanged, contains-unkept}
 use Rattle.hc_exchange.specs.PairLaws.{IsConfigurable}
-use Rattle.hc_exchange.specs.Pairs.{AreasPair, IsAreaPair, IsMapped, member_area_key}
+use Rattle.hc_exchange.specs.Pairs.{LinePairs, IsAreaPair, IsMapped, member_area_key}
 use Rattle.hc_exchange.specs.Carrying.{CarriesAsked, IsBitOfTask}
 use Rattle.hc_exchange.specs.TaskBlocks.{ChoosesTask, FreshMachinesPass, HasTaskBlocks, IsBeforeTask, IsTaskArea, TaskBlocksCarry, WritingCarriesTheTask, chosen_blocks}
 use Rattle.hc_exchange.specs.Writing.{write_frames}
@@ -41,7 +41,7 @@ pub pair-in_task : (state : State) (task : ℕ) (member : Member) (i x m : ℕ) 
 pair-in_task state task member i x m area mapping can asked is pair =
     let members = line state in
     let logical : 8 * logical_address task asked.datagram + asked.bit ≡ 8 * mapping.address + mapping.bit + pair.k = sym asked.at ∙ pair.logical in
-    let pairs : AreasPair members member.slave.station (8 * logical_address task asked.datagram + asked.bit) m = record {
+    let pairs : LinePairs members member.slave.station (8 * logical_address task asked.datagram + asked.bit) m = record {
       member = member;
       index = i;
       area = area;

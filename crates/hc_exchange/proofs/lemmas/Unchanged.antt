@@ -34,9 +34,9 @@ programmed-unchanged line member memory memory' stays has programmed long same =
       machine = record {
         size = long;
         address = machine.address;
-        ready = record {
-          station = ap₂ (λ (m n : ℕ). m + 256 * n) (same 16 (omega arith)) (same 17 (omega arith)) ∙ machine.ready.station;
-          unused = λ i history low. same-range memory' memory (1536 + 16 * i) 16 (omega arith) (omega arith) (λ j below. same (1536 + 16 * i + j) (omega arith)) ∙ machine.ready.unused i history low;
+        programmable = record {
+          station = ap₂ (λ (m n : ℕ). m + 256 * n) (same 16 (omega arith)) (same 17 (omega arith)) ∙ machine.programmable.station;
+          unused = λ i history low. same-range memory' memory (1536 + 16 * i) 16 (omega arith) (omega arith) (λ j below. same (1536 + 16 * i + j) (omega arith)) ∙ machine.programmable.unused i history low;
         };
       };
       blocks = λ block within.

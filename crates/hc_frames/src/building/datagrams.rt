@@ -1,4 +1,4 @@
-//! Datagrams in slices of their exact size.
+//! Builders of datagrams in slices of their exact length.
 ghost use Rattle.std.specs.Prelude.{◌≡◌, ◌+◌, ◌*◌, ◌≤◌, ◌++◌, OnOk, length, map};
 ghost use Rattle.hc_frames.specs.FrameText.{block_write, sent_datagram_text, sent_datagrams_text, blank_lrw, lrw, station_address};
 ghost use Rattle.hc_frames.specs.Sizes.{datagrams_size};
@@ -38,7 +38,8 @@ pub fn build_datagram_of(out: &mut [u8], serial: u64, address: u32, bytes: &[u8]
     write_datagram(out, serial, Command::Lrw, address, bytes, more);
 }
 
-/// A register of the slave with a station address, as the address of a datagram: the station in its low word.
+/// Returns the address of a register of the slave with a station address: the station in the low word, the register in the high
+/// word.
 pub(crate) fn station_address(station: u16, register: u16) -> u32
     ensures { result ≡ station_address station register }
 {
@@ -64,8 +65,8 @@ pub fn build_write_datagram(
     write_datagram(out, serial, Command::Fpwr, address, bytes, more);
 }
 
-/// Adds one LRW datagram with these data bytes to a text, as `build_datagram_of` writes it. `AllocError` where the text has
-/// no room for it and was refused a growth.
+/// Appends one LRW datagram with these data bytes to a list, as `build_datagram_of` writes it. `AllocError` if the list's
+/// capacity is too small and an allocation fails.
 pub fn add_datagram_of(
     text: &mut Vec<u8>,
     serial: u64,
@@ -99,8 +100,8 @@ pub fn build_blank_datagram(out: &mut [u8], serial: u64, address: u32, size: u16
     ));
 }
 
-/// Writes LRW datagrams, given by address and number of data bytes, one after another: their data bytes are 0, and more
-/// follow each but the last. `out` has their exact size. A frame has 115 at most, so deep is this recursion.
+/// Writes LRW datagrams of zeros, given by address and number of data bytes, one after another; each but the last is followed
+/// by more. `out` has their exact length. A frame has at most 115, which bounds the recursion.
 pub(crate) fn write_blank_datagrams(out: &mut [u8], serial: u64, datagrams: &[(u32, u16)])
     requires exact { length out.old ≡ datagrams_size datagrams.now }
     requires size { 2 + length out.old ≤ MAX_ETHERCAT }

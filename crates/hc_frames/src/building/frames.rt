@@ -1,4 +1,4 @@
-//! Whole frames of one datagram.
+//! Builders of whole frames of one datagram.
 ghost use Rattle.std.specs.Prelude.{◌≡◌, ◌+◌, ◌-◌, ◌*◌, ◌%◌, ◌^◌, ◌<◌, ◌≤◌, [], ◌∷◌, length, map, replicate};
 ghost use Rattle.hc_frames.specs.Builds.{Builds};
 ghost use Rattle.hc_frames.specs.FrameText.{frame_text, blank_lrw, block_write, station_write, alias_read, fmmu_off};
@@ -14,7 +14,7 @@ use crate::limits::{
 };
 use hc_registers::registers::{FMMU_BLOCK_BYTES, FMMU_BLOCKS};
 
-/// The bytes of a frame with `size` bytes of datagrams: 16 more, and 60 at least.
+/// Returns the length of a frame with `size` bytes of datagrams: 16 bytes more, and at least 60.
 pub(crate) fn frame_bytes(size: usize) -> usize
     requires { size < 2 ^ 32 }
     ensures { result ≡ frame_bytes size }
@@ -22,14 +22,14 @@ pub(crate) fn frame_bytes(size: usize) -> usize
     usize::from(LEAST_FRAME).max(HEAD_BYTES + size)
 }
 
-/// The bytes of a frame of one datagram with `size` data bytes: 28 more, and 60 at least.
+/// Returns the length of a frame of one datagram with `size` data bytes: 28 bytes more, and at least 60.
 pub fn frame_size(size: u16) -> usize
     ensures { result ≡ frame_size size }
 {
     frame_bytes(BESIDE_DATA_BYTES + usize::from(size))
 }
 
-/// Writes a frame of one datagram with these data bytes into a slice of its exact size.
+/// Writes a frame of one datagram with these data bytes into a slice of its exact length.
 fn write_frame(out: &mut [u8], serial: u64, command: Command, address: u32, bytes: &[u8])
     requires exact { length out.old ≡ frame_size (length bytes.now) }
     requires serial { serial < 2 ^ 40 }
@@ -63,9 +63,9 @@ fn build_single(
     Ok(size)
 }
 
-/// Writes the frame of a register block write (FPWR) to the front of `out`, and answers the frame's size in bytes.
-/// `bytes` are 1 to 1,486, `serial` is below 2^40. `Room` with the size needed where `out` is shorter; `out` is then as
-/// it was.
+/// Writes the frame of a register block write (FPWR) to the front of `out`, and returns the frame's length in bytes. `bytes`
+/// has 1 to 1,486 bytes, and `serial` is below 2^40. Fails with `Room` and the length needed if `out` is shorter; then `out` is
+/// unchanged.
 pub fn build_write(
     out: &mut [u8],
     serial: u64,
@@ -82,7 +82,7 @@ pub fn build_write(
     build_single(out, serial, Command::Fpwr, address, bytes)
 }
 
-/// Where a slave is in the line, as the low word of an address: each slave adds 1 to it, and the one that meets 0 is
+/// Returns the low word of the address of the slave at a position: each slave adds 1 to it, and the one that meets 0 is
 /// addressed (ETG.1000.4, auto increment addressing).
 fn position_address(position: u16, register: u16) -> u32
     ensures { result ≡ (65536 - position) % 65536 + 65536 * register }
@@ -90,9 +90,9 @@ fn position_address(position: u16, register: u16) -> u32
     u32::from(position.wrapping_neg()) + 65536 * u32::from(register)
 }
 
-/// Writes the frame that gives the slave at a position, counted from 0, its station address (APWR) to the front of
-/// `out`, and answers the frame's size, 60 bytes. It bears the setup serial. `Room` with the size needed where `out` is
-/// shorter; `out` is then as it was.
+/// Writes the frame that gives a station address to the slave at a position, counted from 0, to the front of `out` (APWR), and
+/// returns the frame's length, 60 bytes. The frame has the setup serial. Fails with `Room` and the length needed if `out` is
+/// shorter; then `out` is unchanged.
 pub fn build_station(out: &mut [u8], position: u16, station: u16) -> Result<usize, Room>
     ensures { Builds out.old out.new result (frame_text SETUP_SERIAL (station_write position station ∷ [])) 60 }
 {
@@ -106,9 +106,9 @@ pub fn build_station(out: &mut [u8], position: u16, station: u16) -> Result<usiz
     )
 }
 
-/// Writes the frame that reads the configured station alias of the slave at a position, counted from 0, (APRD) to the
-/// front of `out`, and answers the frame's size, 60 bytes. It bears the setup serial. `Room` with the size needed where
-/// `out` is shorter; `out` is then as it was.
+/// Writes the frame that reads the configured station alias of the slave at a position, counted from 0, to the front of `out`
+/// (APRD), and returns the frame's length, 60 bytes. The frame has the setup serial. Fails with `Room` and the length needed if
+/// `out` is shorter; then `out` is unchanged.
 pub fn build_alias_read(out: &mut [u8], position: u16) -> Result<usize, Room>
     ensures { Builds out.old out.new result (frame_text SETUP_SERIAL (alias_read position ∷ [])) 60 }
 {
@@ -116,7 +116,7 @@ pub fn build_alias_read(out: &mut [u8], position: u16) -> Result<usize, Room>
     build_single(out, SETUP_SERIAL, Command::Aprd, address, &[0, 0])
 }
 
-/// The first bytes of zeros, as many as `size`.
+/// Returns `size` zeros.
 fn zeros_of(zeros: &[u8; 256], size: usize) -> &[u8]
     requires zeros { zeros.now ≡ replicate 256 0 }
     requires few { size ≤ 256 }
@@ -125,11 +125,11 @@ fn zeros_of(zeros: &[u8; 256], size: usize) -> &[u8]
     &zeros[..size]
 }
 
-/// Writes the frame that writes zeros to the first `count` FMMUs of the slave at a station address (FPWR, ETG.1000.4, 6.6)
-/// to the front of `out`, and returns the frame's size in bytes: 28 bytes and 16 for each FMMU, and 60 at least. `count` is
-/// 1 to 16. The frame bears the setup serial. After it a slave with at most `count` FMMUs in use takes no part in process
-/// data until its FMMUs are written again; it came back with working counter 1 if the slave took the zeros. Fails with
-/// `Room`, which has the size needed, if `out` is shorter; `out` is then as it was.
+/// Writes the frame that writes zeros to the first `count` FMMUs, 1 to 16, of the slave at a station address to the front of
+/// `out` (FPWR, ETG.1000.4, 6.6). Returns the frame's length in bytes: 28, and 16 for each FMMU, and at least 60. The frame has
+/// the setup serial. It comes back with working counter 1 if the slave took the zeros. A slave that took them, and uses at most
+/// `count` FMMUs, takes no part in process data until its FMMUs are written again. Fails with `Room` and the length needed if
+/// `out` is shorter; then `out` is unchanged.
 pub fn build_fmmu_off(out: &mut [u8], station: u16, count: u8) -> Result<usize, Room>
     requires some { 1 ≤ count }
     requires few { count ≤ MOST_FMMUS }
@@ -140,10 +140,10 @@ pub fn build_fmmu_off(out: &mut [u8], station: u16, count: u8) -> Result<usize, 
     build_write(out, SETUP_SERIAL, station, FMMU_BLOCKS, written)
 }
 
-/// Writes a frame of LRW datagrams, given by address and number of data bytes, whose data bytes are 0, to the front of
-/// `out`, and answers the frame's size in bytes. The datagrams have 1 data byte or more each, and 1,498 bytes at most
-/// with the 12 bytes beside the data of each; `serial` is below 2^40. `Room` with the size needed where `out` is
-/// shorter; `out` is then as it was. The data of the first are from byte 26 on, the next 12 bytes further each.
+/// Writes a frame of LRW datagrams of zeros to the front of `out`, and returns the frame's length in bytes. The datagrams are
+/// given by address and number of data bytes, at least 1 each; with 12 bytes beside the data of each they have at most 1,498
+/// bytes. `serial` is below 2^40. The data of the first datagram begin at byte 26, those of each next one 12 bytes after the
+/// data before. Fails with `Room` and the length needed if `out` is shorter; then `out` is unchanged.
 pub fn build_blank_frame(
     out: &mut [u8],
     serial: u64,
@@ -162,7 +162,7 @@ pub fn build_blank_frame(
     Ok(needed)
 }
 
-/// The bytes of datagrams that are given by address and number of data bytes.
+/// Returns the number of bytes of datagrams that are given by address and number of data bytes.
 pub(crate) fn datagrams_size(datagrams: &[(u32, u16)]) -> usize
     requires { 2 + datagrams_size datagrams.now ≤ MAX_ETHERCAT }
     ensures { result ≡ datagrams_size datagrams.now }
@@ -173,7 +173,7 @@ pub(crate) fn datagrams_size(datagrams: &[(u32, u16)]) -> usize
         .sum()
 }
 
-/// Writes such a frame into a slice of its exact size, `size` being the bytes of its datagrams.
+/// Writes a frame of LRW datagrams of zeros into a slice of its exact length; `size` is the number of bytes of its datagrams.
 fn write_blank_frame(out: &mut [u8], serial: u64, datagrams: &[(u32, u16)], size: usize)
     requires exact { length out.old ≡ frame_bytes size }
     requires serial { serial < 2 ^ 40 }
@@ -188,9 +188,9 @@ fn write_blank_frame(out: &mut [u8], serial: u64, datagrams: &[(u32, u16)], size
     zeros.fill(0);
 }
 
-/// Writes a frame of one LRW datagram whose data bytes are 0 to the front of `out`, and answers the frame's size in
-/// bytes. `size` is the number of data bytes, 1 to 1,486, and `serial` is below 2^40. `Room` with the size needed where
-/// `out` is shorter; `out` is then as it was. The data are from byte 26 on.
+/// Writes a frame of one LRW datagram of zeros to the front of `out`, and returns the frame's length in bytes. `size` is the
+/// number of data bytes, 1 to 1,486, and `serial` is below 2^40. The data begin at byte 26. Fails with `Room` and the length
+/// needed if `out` is shorter; then `out` is unchanged.
 pub fn build_blank_lrw(out: &mut [u8], serial: u64, address: u32, size: u16) -> Result<usize, Room>
     requires serial { serial < 2 ^ 40 }
     requires filled { 1 ≤ size }

@@ -19,8 +19,8 @@ fn frame_head(serial: u64, size: u16) -> [u8; 16]
     ]
 }
 
-/// Adds a frame's first 16 bytes to a text, as `build_head` writes them. `AllocError` where the text has no room for them
-/// and was refused a growth.
+/// Appends a frame's first 16 bytes to a list, as `build_head` writes them. `AllocError` if the list's capacity is too small
+/// and an allocation fails.
 pub fn add_head(text: &mut Vec<u8>, serial: u64, size: u16) -> Result<(), AllocError>
     requires serial { serial < 2 ^ 40 }
     requires size { size + 2 ≤ MAX_ETHERCAT }
@@ -29,8 +29,8 @@ pub fn add_head(text: &mut Vec<u8>, serial: u64, size: u16) -> Result<(), AllocE
     text.extend_from_slice(&frame_head(serial, size))
 }
 
-/// Writes a frame's first 16 bytes: destination, source with the serial (below 2^40), EtherType and EtherCAT header.
-/// `out` has 16 bytes, and `size` is the number of bytes of the datagrams, at most 1,498 (ETG.1000.4, EtherCAT header).
+/// Writes a frame's first 16 bytes: destination, source with the serial (below 2^40), EtherType and EtherCAT header. `out` has
+/// 16 bytes, and `size` is the number of bytes of the datagrams, at most 1,498 (ETG.1000.4, EtherCAT header).
 pub fn build_head(out: &mut [u8], serial: u64, size: u16)
     requires exact { length out.old ≡ 16 }
     requires serial { serial < 2 ^ 40 }

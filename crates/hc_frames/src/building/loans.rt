@@ -1,4 +1,4 @@
-//! Datagrams and frames whose data part is lent for writing.
+//! Builders that lend the data part of a datagram or a frame for writing.
 ghost use Rattle.std.specs.Borrow.{sem};
 ghost use Rattle.std.specs.Prelude.{◌≡◌, ◌+◌, ◌^◌, ◌<◌, ◌≤◌, [], ◌∷◌, ◌++◌, ◌↔◌, length, drop, replicate, IsErr, IfOk, IfErr};
 ghost use Rattle.hc_frames.specs.FrameText.{sent_datagram_text, frame_text, blank_lrw};
@@ -10,7 +10,7 @@ use super::datagrams::build_blank_datagram;
 use super::frames::{build_blank_lrw, frame_size};
 use crate::limits::{DATAGRAM_HEAD_BYTES, FIRST_DATA, MAX_DATA};
 
-/// Writes a datagram with data of zeros, and hands back its slice.
+/// Writes a datagram of zeros, and returns its slice.
 fn with_blank_datagram(
     out: &mut [u8],
     serial: u64,
@@ -27,9 +27,9 @@ fn with_blank_datagram(
     out
 }
 
-/// Writes one LRW datagram with the working counter 0, and lends its data part, which is 0 at first. `out` has 12 bytes
-/// more than `size`, the number of data bytes, 1 to 1,486. `more` says that another datagram follows it. When the loan
-/// ends `out` is the datagram with what was left in the part.
+/// Writes one LRW datagram with the working counter 0, and lends its data part, which is zeros at first. `out` has 12 bytes
+/// more than `size`, the number of data bytes, 1 to 1,486. `more` says that another datagram follows it. After the loan `out`
+/// is the datagram with the data that were left in the part.
 pub fn build_datagram(out: &mut [u8], serial: u64, address: u32, size: u16, more: bool) -> &mut [u8]
     requires exact { length out.old ≡ 12 + size }
     requires size { size ≤ MAX_DATA }
@@ -40,7 +40,7 @@ pub fn build_datagram(out: &mut [u8], serial: u64, address: u32, size: u16, more
     &mut datagram[DATAGRAM_HEAD_BYTES..DATAGRAM_HEAD_BYTES + size as usize]
 }
 
-/// Writes a frame with data of zeros to the front of a slice, and hands back the slice.
+/// Writes a frame of zeros to the front of a slice, and returns the slice.
 fn with_blank_lrw(out: &mut [u8], serial: u64, address: u32, size: u16) -> &mut [u8]
     requires room { frame_size size ≤ length out.old }
     requires serial { serial < 2 ^ 40 }
@@ -53,7 +53,7 @@ fn with_blank_lrw(out: &mut [u8], serial: u64, address: u32, size: u16) -> &mut 
     out
 }
 
-/// The data part of such a frame, lent for writing.
+/// Lends the data part of a frame of one datagram.
 fn lend_lrw(out: &mut [u8], serial: u64, address: u32, size: u16) -> &mut [u8]
     requires room { frame_size size ≤ length out.old }
     requires serial { serial < 2 ^ 40 }
@@ -66,10 +66,10 @@ fn lend_lrw(out: &mut [u8], serial: u64, address: u32, size: u16) -> &mut [u8]
     &mut frame[FIRST_DATA..FIRST_DATA + size as usize]
 }
 
-/// Writes a frame of one LRW datagram to the front of `out`, and lends its data part, which is 0 at first. `size` is the
-/// number of data bytes, 1 to 1,486, and `serial` is below 2^40. When the loan ends `out` is the frame with what was left
-/// in the part, and after it what was there. `Room` with the size needed where `out` is shorter; `out` then stays as it
-/// was.
+/// Writes a frame of one LRW datagram to the front of `out`, and lends its data part, which is zeros at first. `size` is the
+/// number of data bytes, 1 to 1,486, and `serial` is below 2^40. After the loan `out` is the frame with the data that were left
+/// in the part, and after it the old bytes. Fails with `Room` and the length needed if `out` is shorter; then `out` is
+/// unchanged.
 pub fn build_lrw(out: &mut [u8], serial: u64, address: u32, size: u16) -> Result<&mut [u8], Room>
     requires serial { serial < 2 ^ 40 }
     requires filled { 1 ≤ size }

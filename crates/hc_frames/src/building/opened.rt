@@ -8,20 +8,20 @@ mod writing;
 use crate::limits::{BESIDE_DATA_BYTES, DATAGRAM_HEAD_BYTES};
 pub use writing::build_frame;
 
-/// A frame whose data parts are still to be handed out, in their order.
+/// A frame whose data parts are still to be lent, in their order.
 #[derive(Drop)]
 pub struct Open<'a> {
     /// The bytes from the next datagram on, to the end of the slice.
     rest: &'a mut [u8],
-    /// The datagrams that were not handed out, by address and number of data bytes.
+    /// The datagrams that were not lent yet, by address and number of data bytes.
     datagrams: &'a [(u32, u16)],
     /// The frame's serial.
     serial: u64,
-    /// The datagrams are before the rest, with data of zeros.
+    /// The datagrams stand before the rest, with zeros as data.
     pub ghost standing: { AreOpen serial datagrams.now rest.now },
 }
 
-/// A slice in two.
+/// Splits a slice in two.
 fn cut(bytes: &mut [u8], at: usize) -> (&mut [u8], &mut [u8])
     requires { at ≤ length bytes.old }
     ensures* joined { sem 𝓛 (LendsBoth (Array byte 0) (Array byte 0) (Array byte 0) bytes.entry result ◌++◌) }
@@ -31,7 +31,7 @@ fn cut(bytes: &mut [u8], at: usize) -> (&mut [u8], &mut [u8])
     bytes.split_at_mut(at)
 }
 
-/// The data bytes of the first datagram, and the datagrams after it.
+/// Returns the number of data bytes of the first datagram, and the datagrams after it.
 fn first_and_others(datagrams: &[(u32, u16)]) -> (usize, &[(u32, u16)])
     requires { 0 < length datagrams.now }
     ensures size { result.0 ≡ first_size datagrams.now }
@@ -45,8 +45,8 @@ impl<'a> Open<'a> {
     ghost use Rattle.hc_frames.specs.Handing.{LendsNext};
     ghost use Rattle.hc_frames.specs.Opened.{HandsOutFirst};
 
-    /// Lends the next datagram's data part, which is 0 at first, and hands on the frame after it. None where all
-    /// datagrams were handed out.
+    /// Lends the next datagram's data part, which is zeros at first, and returns the frame after it. `None` if all data parts
+    /// were lent.
     pub fn next(self) -> Option<(&'a mut [u8], Open<'a>)>
         ensures* lent { sem 𝓛 (LendsNext self.entry result) }
         ensures all { IsNone result ↔ (self.entry.datagrams.now ≡ []) }

@@ -5,14 +5,14 @@ ghost use Rattle.hc_frames.specs.Survey.{noted, nothing_seen, surveyed};
 
 use super::fields::{after_it, circulates, has_other_index, is_unknown, is_whole, says_more};
 
-/// What the conditions of a frame look at, over the datagrams up to some place.
+/// The survey of a frame's datagrams up to some place: the facts from which its fault follows.
 #[derive(Clone, Copy)]
 pub(crate) struct Survey {
-    /// How many there are.
+    /// The number of datagrams.
     pub(crate) count: usize,
     /// One of them has gone round the ring.
     pub(crate) circulates: bool,
-    /// The last one says that more follow; so it is before the first.
+    /// The last one says that more follow. It is true before the first.
     pub(crate) more: bool,
     /// One of them has an unknown command.
     pub(crate) unknown: bool,
@@ -21,7 +21,7 @@ pub(crate) struct Survey {
 }
 
 impl Survey {
-    /// With the datagram at the front, which is whole.
+    /// Returns the survey with the datagram at the front, which is whole.
     fn noted(self, index: u8, bytes: &[u8]) -> Survey
         requires room { self.count < 2 ^ 63 }
         requires whole { 12 ≤ length bytes.now }
@@ -37,8 +37,8 @@ impl Survey {
     }
 }
 
-/// What the conditions look at, over all datagrams of these bytes. None where one isn't whole, or one but the last
-/// doesn't say that more follow.
+/// Returns the survey of all datagrams of these bytes. `None` if one is not whole, or one but the last does not say that more
+/// follow.
 pub(crate) fn survey_of(region: &[u8], index: u8) -> Option<Survey>
     requires { length region.now < 2048 }
     ensures { result ≡ surveyed index nothing_seen (datagram_tails region.now) }

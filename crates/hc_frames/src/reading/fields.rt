@@ -5,7 +5,7 @@ ghost use Rattle.hc_frames.specs.Arrived.{circulates, data_size, has_bad_type, h
 use crate::commands::Command;
 use crate::limits::{BESIDE_DATA_BYTES, MAX_DATA};
 
-/// The number in two bytes, low byte first: such are a frame's and a datagram's fields (ETG.1000.4, 5.3 and 5.4).
+/// Returns the number in two bytes, low byte first, as the fields of frames and datagrams have it (ETG.1000.4, 5.3 and 5.4).
 pub fn word_at(bytes: &[u8], at: usize) -> u16
     requires { at + 2 ≤ length bytes.now }
     ensures { result ≡ word_at bytes.now at }
@@ -13,7 +13,7 @@ pub fn word_at(bytes: &[u8], at: usize) -> u16
     u16::from_le_bytes([bytes[at], bytes[at + 1]])
 }
 
-/// The number in four bytes, low byte first: such is a datagram's address (ETG.1000.4, 5.4).
+/// Returns the number in four bytes, low byte first, as a datagram's address has it (ETG.1000.4, 5.4).
 pub fn long_at(bytes: &[u8], at: usize) -> u32
     requires { at + 4 ≤ length bytes.now }
     ensures { result ≡ long_at bytes.now at }
@@ -21,7 +21,7 @@ pub fn long_at(bytes: &[u8], at: usize) -> u32
     u32::from(word_at(bytes, at)) + 65536 * u32::from(word_at(bytes, at + 2))
 }
 
-/// The serial: the forty bits after the source's first byte, high byte first.
+/// Returns the serial: the forty bits after the source's first byte, high byte first.
 pub(crate) fn serial_in(frame: &[u8]) -> u64
     requires { 12 ≤ length frame.now }
     ensures value { result ≡ serial_in frame.now }
@@ -30,7 +30,7 @@ pub(crate) fn serial_in(frame: &[u8]) -> u64
     u64::from_be_bytes([0, 0, 0, frame[7], frame[8], frame[9], frame[10], frame[11]])
 }
 
-/// Whether the EtherType isn't EtherCAT's.
+/// Returns whether the EtherType is not EtherCAT's.
 pub(crate) fn is_not_ethercat(frame: &[u8]) -> bool
     requires { 14 ≤ length frame.now }
     ensures { result ≡ is_not_ethercat frame.now }
@@ -38,7 +38,7 @@ pub(crate) fn is_not_ethercat(frame: &[u8]) -> bool
     !(frame[12] == 0x88 && frame[13] == 0xa4)
 }
 
-/// Whether the EtherCAT header's type says anything but datagrams.
+/// Returns whether the EtherCAT header has another type than datagrams.
 pub(crate) fn has_bad_type(frame: &[u8]) -> bool
     requires { 16 ≤ length frame.now }
     ensures { result ≡ has_bad_type frame.now }
@@ -46,7 +46,7 @@ pub(crate) fn has_bad_type(frame: &[u8]) -> bool
     word_at(frame, 14) / 2048 != 2
 }
 
-/// The number of data bytes of the datagram at the front.
+/// Returns the number of data bytes of the datagram at the front.
 pub(crate) fn data_size(bytes: &[u8]) -> usize
     requires { 12 ≤ length bytes.now }
     ensures size { result ≡ data_size bytes.now }
@@ -55,7 +55,7 @@ pub(crate) fn data_size(bytes: &[u8]) -> usize
     usize::from(word_at(bytes, 6) % 2048)
 }
 
-/// Whether a whole datagram with data is at the front.
+/// Returns whether a whole datagram with data is at the front.
 pub(crate) fn is_whole(bytes: &[u8]) -> bool
     ensures { result ≡ is_whole bytes.now }
 {
@@ -69,7 +69,7 @@ pub(crate) fn is_whole(bytes: &[u8]) -> bool
         && BESIDE_DATA_BYTES + size <= bytes.len()
 }
 
-/// Whether its circulating bit is set.
+/// Returns whether the circulating bit of the datagram at the front is set.
 pub(crate) fn circulates(bytes: &[u8]) -> bool
     requires { 12 ≤ length bytes.now }
     ensures { result ≡ circulates bytes.now }
@@ -77,7 +77,7 @@ pub(crate) fn circulates(bytes: &[u8]) -> bool
     word_at(bytes, 6) / 16384 % 2 == 1
 }
 
-/// Whether it says that more follow.
+/// Returns whether the datagram at the front says that more follow.
 pub(crate) fn says_more(bytes: &[u8]) -> bool
     requires { 12 ≤ length bytes.now }
     ensures { result ≡ says_more bytes.now }
@@ -85,7 +85,7 @@ pub(crate) fn says_more(bytes: &[u8]) -> bool
     32768 <= word_at(bytes, 6)
 }
 
-/// Whether its command is none that this project uses.
+/// Returns whether the command of the datagram at the front is not one that this project uses.
 pub(crate) fn is_unknown(bytes: &[u8]) -> bool
     requires { 12 ≤ length bytes.now }
     ensures { result ≡ is_unknown bytes.now }
@@ -93,7 +93,7 @@ pub(crate) fn is_unknown(bytes: &[u8]) -> bool
     Command::of(bytes[0]).is_none()
 }
 
-/// Whether its index is another one.
+/// Returns whether the index of the datagram at the front differs from this one.
 pub(crate) fn has_other_index(index: u8, bytes: &[u8]) -> bool
     requires { 12 ≤ length bytes.now }
     ensures { result ≡ has_other_index index bytes.now }
@@ -101,7 +101,7 @@ pub(crate) fn has_other_index(index: u8, bytes: &[u8]) -> bool
     bytes[1] != index
 }
 
-/// What is after the whole datagram at the front.
+/// Returns the bytes after the whole datagram at the front.
 pub(crate) fn after_it(bytes: &[u8]) -> &[u8]
     requires { is_whole bytes.now ≡ true }
     ensures { result.now ≡ drop (12 + data_size bytes.now) bytes.now }

@@ -9,7 +9,7 @@ use super::fields::{has_bad_type, is_not_ethercat, serial_in, word_at};
 use super::returned::Returned;
 use crate::limits::{HEAD_BYTES, LEAST_READ, MAX_DATAGRAMS};
 
-/// The bytes of the datagrams, by the EtherCAT header, or the first fault that shows before they are looked at.
+/// Returns the bytes of the datagrams, from the EtherCAT header, or the first fault that shows before they are read.
 fn region_of(frame: &[u8]) -> Result<&[u8], FrameFault>
     ensures fault { IfErr result (λ fault. fault_in frame.now ≡ Some fault) }
     ensures found { IfOk result (λ region. ComesAfter frame.now region.now) }
@@ -30,7 +30,7 @@ fn region_of(frame: &[u8]) -> Result<&[u8], FrameFault>
     Ok(&frame[HEAD_BYTES..HEAD_BYTES + usize::from(size)])
 }
 
-/// The first fault that shows in the datagrams.
+/// Returns the first fault that shows in the datagrams.
 fn fault_of(seen: Survey) -> Option<FrameFault>
     ensures { result ≡ fault_of seen }
 {
@@ -47,9 +47,9 @@ fn fault_of(seen: Survey) -> Option<FrameFault>
     }
 }
 
-/// Reads a frame of one datagram or more, or answers the first fault in the order of `FrameFault`. It takes any
-/// destination, any first source byte, any addresses, interrupt fields, data and working counters, and anything or
-/// nothing after the datagrams (ETG.1000.4, frame, EtherCAT header and datagram structure; this project's profile).
+/// Reads a frame of at least one datagram (ETG.1000.4, frame, EtherCAT header and datagram structure; this project's profile).
+/// Any destination, first source byte, addresses, interrupt fields, data and working counters are accepted, and any bytes after
+/// the datagrams. Fails with the first fault that holds, in the order of `FrameFault`.
 pub fn read_frame(frame: &[u8]) -> Result<Returned<'_>, FrameFault>
     ensures { Answers frame.now result }
 {

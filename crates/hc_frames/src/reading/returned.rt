@@ -1,4 +1,4 @@
-//! What a frame that was read gives.
+//! A frame that was read, and its datagrams.
 ghost use Rattle.std.specs.Prelude.{◌≡◌, ◌+◌, ◌-◌, ◌^◌, ◌<◌, ◌≤◌, ◌∷◌, true, length, map, slice_get};
 ghost use Rattle.std.specs.List.{list_all};
 ghost use Rattle.hc_frames.specs.Arrived.{datagram_carried, datagram_tails, is_whole, placed_from, region, Reading, datagrams_placed};
@@ -11,12 +11,12 @@ use std::marker::Model;
 /// A datagram of a frame that was read. It borrows the frame.
 #[derive(Debug, Drop)]
 pub struct Part<'a> {
-    /// Where its first byte is in the frame: the address is 2 bytes further, the data 10, and the working counter
-    /// follows the data.
+    /// The offset of its first byte in the frame. The address begins 2 bytes later, the data 10 bytes later; the working
+    /// counter follows the data.
     pub start: usize,
-    /// What the slaves were asked to do.
+    /// The command to the slaves.
     pub command: Command,
-    /// The logical address of `Lrw`, else the position or station in the low word and the register in the high word.
+    /// For `Lrw` the logical address; otherwise the position or station in the low word and the register in the high word.
     pub address: u32,
     /// The interrupt field.
     pub interrupt: u16,
@@ -55,7 +55,7 @@ impl<'a> Model for Returned<'a> {
 }
 
 impl<'a> Returned<'a> {
-    /// The reading of whole datagrams.
+    /// Returns the reading of whole datagrams.
     pub(crate) fn of(serial: u64, region: &'a [u8], count: usize) -> Returned<'a>
         requires whole { list_all is_whole (datagram_tails region.now) ≡ true }
         requires counted { count ≡ length (datagram_tails region.now) }
@@ -79,7 +79,7 @@ impl<'a> Returned<'a> {
         self.serial
     }
 
-    /// How many datagrams the frame has, at least 1.
+    /// Returns the number of datagrams, at least 1.
     pub fn len(&self) -> usize
         ensures value { result ≡ length self.now.parts }
         ensures some { 1 ≤ result }
@@ -87,7 +87,7 @@ impl<'a> Returned<'a> {
         self.count
     }
 
-    /// The datagrams, one by one from the front.
+    /// Returns the datagrams one by one, from the front.
     pub fn parts(&self) -> Parts<'a>
         ensures { result ≡ placed_from 16 self.now.parts }
     {
@@ -97,7 +97,8 @@ impl<'a> Returned<'a> {
         }
     }
 
-    /// A datagram, counted from 0. None where the frame has fewer. It walks over those before it: use `parts` for all.
+    /// Returns a datagram by its index, from 0, or `None` if the frame has fewer. It walks over those before it; for all of
+    /// them use `parts`.
     pub fn get(&self, index: usize) -> Option<Part<'a>>
         ensures { result ≡ slice_get (placed_from 16 self.now.parts) index }
     {
@@ -105,7 +106,7 @@ impl<'a> Returned<'a> {
     }
 }
 
-/// The datagrams of a frame that a walk has not reached yet, in their order. Contracts see it as the list of them.
+/// The datagrams of a frame that an iteration has not reached yet, in their order. Contracts see the list of them.
 #[derive(Debug, Drop)]
 pub struct Parts<'a> {
     rest: &'a [u8],
@@ -124,7 +125,7 @@ impl<'a> Model for Parts<'a> {
     ghost invariant = { λ left. (list_all is_whole (datagram_tails left.rest.now) ≡ true) × (left.start + length left.rest.now < 4096) };
 }
 
-/// The whole datagram at the front of some bytes.
+/// Returns the whole datagram at the front of some bytes.
 fn part_at(start: usize, bytes: &[u8]) -> Part<'_>
     requires { is_whole bytes.now ≡ true }
     ensures { result ≡ record { start = start; carried = datagram_carried bytes.now } }
@@ -140,7 +141,7 @@ fn part_at(start: usize, bytes: &[u8]) -> Part<'_>
     }
 }
 
-/// The datagram at the front, and the bytes after it.
+/// Returns the datagram at the front, and the bytes after it.
 fn first_part(start: usize, bytes: &[u8]) -> (Part<'_>, &[u8])
     requires some { 0 < length bytes.now }
     requires whole { list_all is_whole (datagram_tails bytes.now) ≡ true }

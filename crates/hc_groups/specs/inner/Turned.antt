@@ -1,17 +1,17 @@
--- What a change of declared groups makes of their index.
+-- The index of declared groups after a change.
 use Rattle.std.specs.Prelude.{ℕ, zero, suc, ◌+◌, ◌-◌, if◌then◌else◌, List, [], ◌∷◌, get_or, length, map}
 use Rattle.hc_records.specs.declared.records.Declared.{Declared}
 use Rattle.hc_groups.specs.declared.changes.PresenceChange.{PresenceChange}
 use Rattle.hc_groups.specs.Changes.{slaves_at}
 use Rattle.hc_groups.specs.Index.{Index, block_sum}
 
--- sums along a list where the element with an index counts for so many: those after it follow
+-- prefix sums of a list in which the element with an index has another weight: those after it follow
 abbrev pub recounted : ℕ → ℕ → List ℕ → List ℕ
 recounted index count [] = []
 recounted zero count (sum ∷ sums) = sum ∷ map (λ other. other + count - (get_or sums 0 0 - sum)) sums
 recounted (suc index) count (sum ∷ sums) = sum ∷ recounted index count sums
 
--- an index where a group is present, or isn't
+-- an index in which a group is present or not
 abbrev pub turned_index : List Declared → PresenceChange → Index → Index
 turned_index groups change index =
     record index {

@@ -1,54 +1,40 @@
--- The blocks of a slave, by the places that a layout has for its areas.
-use Rattle.std.specs.Prelude.{◌≡◌, ℕ, ◌<◌, ◌≤◌, ◌%◌, ◌==◌, if◌then◌else◌, List, [], ◌∷◌, length, option_and_then, option_map, slice_get, Option, Some, None}
-use Rattle.std.specs.Option.{ForSome, option_map_or}
+-- The blocks of an area by its place, and of a slave by the places that a layout has for its areas.
+use Rattle.std.specs.Prelude.{◌≡◌, ℕ, ◌<◌, ◌≤◌, ◌%◌, ◌==◌, if◌then◌else◌, List, [], ◌∷◌, length, option_map, slice_get, Option, Some, None}
+use Rattle.std.specs.Option.{ForSome}
 use Rattle.std.specs.List.{enumerate_from, flat_map}
 use Rattle.hc_records.specs.declared.limits.TheConstants.{LAST_SYNC_MANAGER, MOST_AREA_BITS, MOST_AREAS, TASKS}
-use Rattle.hc_records.specs.declared.keys.Key.{Key}
 use Rattle.hc_records.specs.declared.records.Area.{Area}
 use Rattle.hc_records.specs.declared.records.Declared.{Declared}
-use Rattle.hc_records.specs.Area.{assigned_entries, width}
-use Rattle.hc_records.specs.Image.{VariablePlace, logical_address}
+use Rattle.hc_records.specs.Area.{width}
 use Rattle.hc_records.specs.Line.{Member, groups_of, line_from}
 use Rattle.hc_records.specs.Packing.{Placed}
 use Rattle.hc_records.specs.Edits.{over_limit_task}
 use Rattle.hc_records.specs.Project.{lowest_fault}
 use Rattle.hc_registers.specs.declared.fmmu.Mapping.{Mapping}
-use Rattle.hc_registers.specs.Blocks.{IsMappable, RegisterBlock, fmmu_block, mapping_at, sync_manager_block}
+use Rattle.hc_registers.specs.Blocks.{RegisterBlock, fmmu_block, mapping_at, sync_manager_block}
 use Rattle.hc_places.specs.Layout.{layout_of, placed_in}
-use Rattle.hc_places.specs.Table.{Table, place_in}
+use Rattle.hc_changes.specs.Moved.{placed_bits}
+
+-- an area whose blocks can be written, at an index of its slave's record and with a place, which has its bits
+pub record IsWritable (index : ℕ) (area : Area) (place : Option Placed) : Type 0 where
+  pub early : index < MOST_AREAS
+  pub manager : area.sm ≤ LAST_SYNC_MANAGER
+  pub task : area.task < TASKS
+  pub narrow : width area ≤ MOST_AREA_BITS
+  pub bits : placed_bits place ≡ width area
+  pub some : ForSome place (λ placed. 0 < placed.bits)
+
+-- where an area is mapped, by its place
+abbrev pub mapping_by : Area → Option Placed → Option Mapping
+mapping_by area place = option_map (mapping_at area.task) place
+
+-- the sync manager block and the FMMU block of the area at an index, by its place
+abbrev pub two_blocks : ℕ → Area → Option Placed → RegisterBlock × RegisterBlock
+two_blocks index area place = (sync_manager_block area, fmmu_block index area (mapping_by area place))
 
 -- where a layout maps the area at an index of a slave with a rank
 abbrev pub mapping_in : List (List Placed) → ℕ → ℕ → Area → Option Mapping
-mapping_in layout rank index area =
-    option_map (mapping_at area.task) (placed_in layout area.task (record { dir = area.dir; rank = rank; area = index }))
-
--- the variable that an area's first entry carries, if it carries one
-abbrev pub first_variable : Area → Option ℕ
-first_variable area = option_and_then (λ entry. entry.0) (slice_get (assigned_entries area) 0)
-
--- where an area of a task that begins with a variable is mapped, by the variable's place
-abbrev pub mapping_by : ℕ → VariablePlace → Mapping
-mapping_by task place = record { address = logical_address task place.datagram; bit = place.bit }
-
--- where a table has an area's first variable, there a layout has the area
-abbrev pub RowMaps : Table → List (List Placed) → ℕ → ℕ → Area → Type 0
-RowMaps table layout rank index area =
-    (variable : ℕ) (place : VariablePlace) → first_variable area ≡ Some variable → place_in table variable ≡ Some place
-    → mapping_in layout rank index area ≡ Some (mapping_by area.task place)
-
--- the mapping that a table's row gives an area: each layout that the row fits has it
-abbrev pub IsRowMapping : Table → Area → Mapping → Type 0
-IsRowMapping table area mapping =
-    (layout : List (List Placed)) (rank index : ℕ) → RowMaps table layout rank index area → mapping_in layout rank index area ≡ Some mapping
-
--- so it is with each area of a slave
-abbrev pub RowsMap : Table → List (List Placed) → Member → Type 0
-RowsMap table layout member =
-    (index : ℕ) (area : Area) → slice_get member.slave.areas index ≡ Some area → RowMaps table layout member.rank index area
-
--- the width that a layout has beside the place of a key in a task; 0 where it has none
-abbrev pub bits_in : List (List Placed) → ℕ → Key → ℕ
-bits_in layout task key = option_map_or (λ placed. placed.bits) (placed_in layout task key) 0
+mapping_in layout rank index area = mapping_by area (placed_in layout area.task (record { dir = area.dir; rank = rank; area = index }))
 
 -- the FMMU block of an area, which comes with its index, of a slave with a rank, by its place in a layout; with 16 bytes of 0 where it has none
 abbrev pub fmmu_block_in : List (List Placed) → ℕ → ℕ × Area → RegisterBlock
@@ -72,15 +58,8 @@ pub record IsLayoutOf (groups : List Declared) (layout : List (List Placed)) : T
   pub uncrowded : over_limit_task (line_from 1 groups) ≡ None
   pub is_placed : layout ≡ layout_of (line_from 1 groups)
 
--- an area whose blocks can be written, where its slave has a rank and it an index; a layout gives its width
-pub record IsMappedArea (layout : List (List Placed)) (rank index : ℕ) (area : Area) : Type 0 where
-  pub manager : area.sm ≤ LAST_SYNC_MANAGER
-  pub task : area.task < TASKS
-  pub narrow : width area ≤ MOST_AREA_BITS
-  pub bits : bits_in layout area.task (record { dir = area.dir; rank = rank; area = index }) ≡ width area
-  pub mapped : ForSome (mapping_in layout rank index area) (IsMappable area)
-
 -- a slave of the line that a layout is of
 pub record IsMappedSlave (layout : List (List Placed)) (member : Member) : Type 0 where
   pub few : length member.slave.areas ≤ MOST_AREAS
-  pub areas : (index : ℕ) (area : Area) → slice_get member.slave.areas index ≡ Some area → IsMappedArea layout member.rank index area
+  pub areas : (index : ℕ) (area : Area) → slice_get member.slave.areas index ≡ Some area
+      → IsWritable index area (placed_in layout area.task (record { dir = area.dir; rank = member.rank; area = index }))

@@ -1,5 +1,5 @@
 -- What declaring a group after those of a plan takes.
-use Rattle.std.specs.Prelude.{◌≡◌, ℕ, ◌+◌, ◌==◌, ◌≤◌, nat_lt, Bool, false, List, [], ◌∷◌, None, Option, Some, length}
+use Rattle.std.specs.Prelude.{◌≡◌, ℕ, ◌+◌, ◌*◌, ◌==◌, ◌≤◌, nat_lt, Bool, false, List, [], ◌∷◌, None, Option, Some, length}
 use Rattle.std.specs.List.{list_any}
 use Rattle.std.specs.Option.{option_map_or}
 use Rattle.hc_records.specs.declared.faults.EditFault.{EditFault}
@@ -26,6 +26,7 @@ use Rattle.hc_cuts.specs.TaskCuts.{line_cuts}
 use Rattle.hc_cuts.specs.Room.{with_absent}
 use Rattle.hc_plan.specs.declared.declaring.Declaration.{Declaration}
 use Rattle.hc_plan.specs.declared.report.Report.{Report}
+use Rattle.hc_plan.specs.RegisterBlocks.{blocks_by_rank}
 use Rattle.hc_plan.specs.Reports.{ReportsEdit}
 
 -- the variable that an entry names, if it names one, is declared already
@@ -59,13 +60,14 @@ AreTrees tasks slaves None = (line : List (List Area)) → tasks ≡ line_cuts l
 AreTrees tasks slaves (Some wider) =
     (line : List (List Area)) (count : ℕ) → tasks ≡ line_cuts line → slaves ≡ length line + count → wider ≡ line_cuts (with_absent count line)
 
--- the group may be declared after those of a project, and there is memory for it in their list, in their index and in the trees of their line's tasks
+-- the group may be declared after those of a project, and there is memory for it in their list, in their index, in the places of their line's blocks and in the trees of its tasks
 pub record CanDeclare (groups : List Declared) (declaration : Declaration) : Type 0 where
   pub project : lowest_fault (groups_of groups) ≡ None
   pub free : lowest (declaring_faults groups declaration.group) ≡ None
   pub slaves : declaration.slaves ≡ length (areas_by_rank groups) + length declaration.group.slaves
   pub list : length groups + 1 ≤ declaration.groups
   pub index : IsIndexRoomFor groups declaration.group declaration.index
+  pub blocks : length (blocks_by_rank groups) + 16 * length declaration.group.slaves ≤ declaration.blocks
   pub trees : AreTrees (line_cuts (areas_by_rank groups)) declaration.slaves declaration.wider
 
 -- two lines are configured alike: nothing differs between them, and no block moves

@@ -80,6 +80,7 @@ pub record IsLineReady (old : State) (report : Report) (work : LineWork) : Type 
 -- the edit makes the change, which leads to the groups of a project again, and the line is configured as it was
 pub record IsTaskReady (old : State) (report : Report) (change : Prepared) : Type 0 where
   pub made : change_by old.groups report.swap.edit ≡ Some change
+  pub changes : declares report.swap.edit ≡ false
   pub project : lowest_fault (groups_of (changed_groups change old.groups)) ≡ None
   pub same : AreConfiguredAlike old.groups (changed_groups change old.groups)
 
@@ -89,8 +90,7 @@ IsWorkReady old report (NewLine work) = IsLineReady old report work
 IsWorkReady old report (NewTask change) = IsTaskReady old report change
 IsWorkReady old report (NewGroup declaration) = CanDeclare old.groups declaration
 
--- so it is, and a prepared edit gives it
-pub record CanCarry (old : State) (report : Report) (work : Work) : Type 0 where
+-- so it is, and a prepared edit gives it with the blocks that it moves
+pub record CanCarry (old : State) (report : Report) (work : Work) (blocks : List RankedBlock) : Type 0 where
   pub ready : IsWorkReady old report work
-  pub blocks : List RankedBlock
   pub prepared : IsPrepared (prepared_of old work report blocks)

@@ -14,14 +14,13 @@ use hc_frames::reading::read_frame;
 use hc_text::room::{MOST_DIGITS, add_number, add_text};
 use std::alloc::{AllocError, Global};
 
-/// The bytes of the longest line about an arrival: words, two numbers, and the line feed.
+/// The length of the longest line about an arrival: words, two numbers, and the line feed.
 const LONGEST_OUTCOME: usize = 14 + 2 * MOST_DIGITS;
 
-/// Hands in bytes that arrive and adds what they are: a line for each datagram that they answer, one for a
-/// register write or where they are stale, or why they can't be read; of several writes in one frame, which the program
-/// never sends, nothing. `AllocError` where a growth was
-/// refused; nothing has then arrived, and `out` may have a front of the lines. Room for the longest lines
-/// is taken before the bytes are handed in.
+/// Hands in an arriving frame and appends its outcomes: a line for each datagram of tasks, one for a register write or a stale
+/// frame, or the fault of a frame that cannot be read. For several writes in one frame, which the program never sends, it
+/// appends nothing. It allocates for the longest lines before the frame is handed in. `AllocError` if an allocation fails; then
+/// nothing has arrived, and `out` may have a prefix of the lines.
 #[tactic(auto, unfolding(crate::specs::Answers::answer_given))]
 pub fn reply(
     alloc: Global,
@@ -45,15 +44,14 @@ pub fn reply(
         Answer::Stale => add_text("stale\n", out),
         // the program sends no frame of several register writes, so such an answer has no text
         Answer::Written(_) => {}
-        // what can be read is refused with `Memory` alone
+        // a frame that can be read is refused only with `Memory`
         Answer::Refused(_) => return Err(AllocError),
         _ => unreachable!(),
     }
     Ok(())
 }
 
-/// The bytes of so many of the longest lines.
-/// `AllocError` where no memory has so many.
+/// Returns the length of `lines` of the longest lines. `AllocError` if no memory has so many bytes.
 fn room_of(lines: usize) -> Result<usize, AllocError>
     ensures { IfOk result (λ room. room ≡ LONGEST_OUTCOME * lines) }
 {
@@ -63,7 +61,7 @@ fn room_of(lines: usize) -> Result<usize, AllocError>
     }
 }
 
-/// Adds the lines of what an arrival is for the datagrams that it answers; there is room.
+/// Appends the lines of the outcomes of an arriving frame's datagrams. The capacity must suffice.
 fn add_outcomes(outcomes: &[Outcome], out: &mut String)
     requires { string_len out.old + LONGEST_OUTCOME * length outcomes.now ≤ string_capacity out.old }
     ensures { string_bytes out.new ≡ string_bytes out.old ++ flat_map outcome_text outcomes.now }
@@ -73,7 +71,7 @@ fn add_outcomes(outcomes: &[Outcome], out: &mut String)
     }
 }
 
-/// Adds the line of what an arrival is for a datagram; there is room.
+/// Appends the line of a datagram's outcome. The capacity must suffice.
 #[tactic(auto, unfolding(crate::specs::Answers::outcome_text))]
 fn add_outcome(outcome: Outcome, out: &mut String)
     requires { string_len out.old + LONGEST_OUTCOME ≤ string_capacity out.old }
@@ -96,7 +94,7 @@ fn add_outcome(outcome: Outcome, out: &mut String)
     }
 }
 
-/// Adds two numbers and the end of the line; there is room.
+/// Appends two numbers and the end of the line. The capacity must suffice.
 fn add_pair(first: u64, second: u64, out: &mut String)
     requires { string_len out.old + 2 + 2 * MOST_DIGITS ≤ string_capacity out.old }
     ensures bytes { string_bytes out.new ≡ string_bytes out.old ++ pair_text first second }

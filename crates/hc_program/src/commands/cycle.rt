@@ -18,12 +18,12 @@ use std::alloc::{AllocError, Global};
 use std::sync::Wait;
 use std::thread::Threads;
 
-/// A frame of the present line in a box, with the values that its datagrams' output variables have now.
+/// Returns a frame of the present line in a box, with the values that its datagrams' output variables have now.
 fn boxed(alloc: Global, core: &Core, frame: &Sending) -> Result<FrameBox, AllocError>
     requires { CanBeFilled core.now.history frame.now }
     ensures { IfOk result (λ boxed. boxed ≡ sent_text core.now.history frame.now) }
 {
-    // its datagrams fit a frame, so that it is no larger than the largest
+    // its datagrams fit a frame, so it is at most as long as the longest
     let _ = frame.datagrams();
     let mut bytes = [0u8; LARGEST_FRAME];
     let bytes = &mut bytes[..frame.size()];
@@ -31,7 +31,7 @@ fn boxed(alloc: Global, core: &Core, frame: &Sending) -> Result<FrameBox, AllocE
     FrameBox::of(alloc, bytes)
 }
 
-/// The same of each of these frames.
+/// Returns these frames of the present line in boxes, with the values that their datagrams' output variables have now.
 fn all_boxed(alloc: Global, core: &Core, frames: &[Sending]) -> Result<Vec<FrameBox>, AllocError>
     requires { All (CanBeFilled core.now.history) frames.now }
     ensures { IfOk result (λ all. all.items ≡ map (sent_text core.now.history) frames.now) }
@@ -43,8 +43,8 @@ fn all_boxed(alloc: Global, core: &Core, frames: &[Sending]) -> Result<Vec<Frame
     Ok(all)
 }
 
-/// Takes frames in one after another, and adds what each is. `AllocError` where a growth was refused: those before have
-/// arrived then, and `out` may have a front of the lines.
+/// Hands in frames one after another, and appends their outcomes. `AllocError` if an allocation fails; then the frames before
+/// have arrived, and `out` may have a prefix of the lines.
 fn take_all_in(
     alloc: Global,
     frames: &[FrameBox],
@@ -61,7 +61,8 @@ fn take_all_in(
     Ok(())
 }
 
-/// The same, or the line that there is none.
+/// Hands in frames one after another, and appends their outcomes, or `no frame` if there is none. `AllocError` if an allocation
+/// fails; then the frames before have arrived, and `out` may have a prefix of the lines.
 fn take_back(
     alloc: Global,
     frames: &[FrameBox],
@@ -78,9 +79,9 @@ fn take_back(
     take_all_in(alloc, frames, session, out)
 }
 
-/// Sends tasks along the line, takes in what comes back, and adds what that is, `no frame` where the tasks have no
-/// datagram, or why the sending is refused. A `RefusedGrowth` where a growth was refused: what was done is, and `out` may have a
-/// front of the lines. The frames are there before they are sent.
+/// Sends tasks along the line, hands in the frames that return, and appends their outcomes: `no frame` if the tasks have no
+/// datagram, or the fault if the sending is refused. The frames are built before they are sent. Returns a `RefusedGrowth` if an
+/// allocation fails; then what was done before is done, and `out` may have a prefix of the lines.
 #[tactic(auto, unfolding(crate::specs::Cycles::cycle_text, crate::specs::Cycles::cycled, crate::specs::Cycles::cycle_back, crate::specs::Cycles::cycle_frames))]
 pub fn reply<R: Threads + Wait + Sync>(
     rt: &R,

@@ -1,4 +1,4 @@
-//! `declare`: a group after the declared ones, read from the lines of its document.
+//! `declare`: a further group, read from the lines of its document.
 ghost use Rattle.std.specs.Prelude.{◌≡◌, ◌++◌, OnErr, OnOk, string_bytes};
 ghost use Rattle.hc_project.specs.Text.{group_in};
 ghost use Rattle.hc_program.specs.Runs.{reply_to_document};
@@ -10,9 +10,8 @@ use hc_project::read_group;
 use hc_records::edit::Edit;
 use std::alloc::{AllocError, Global};
 
-/// Declares the group of a document and adds what became different, or why it is refused, or the fault of the
-/// document. `AllocError` where a growth was refused, while the document was read too; nothing was then accepted,
-/// and `out` may have a front of the line.
+/// Declares the group of a document and appends the changes, the fault of the edit, or the fault of the document. `AllocError`
+/// if an allocation fails, also while the document is read; then nothing was accepted, and `out` may have a prefix of the line.
 pub fn reply(
     alloc: Global,
     document: &[u8],

@@ -12,13 +12,12 @@ use hc_records::edit::Edit;
 use hc_text::room::{MOST_DIGITS, add_number, add_text};
 use std::alloc::{AllocError, Global};
 
-/// The bytes of the longest line of an accepted edit: its words, three numbers, and the line feed.
+/// The length of the longest line of an accepted edit: its words, three numbers, and the line feed.
 const LONGEST_REPORT: usize = 21 + 3 * MOST_DIGITS;
 
-/// Carries an edit out and adds what became different, or why it is refused: the core is then as the edit
-/// leaves it, and machines came or went with their group. `AllocError` where a growth was refused; nothing was then
-/// accepted, and `out` may have a front of the line. Room for the line and for the machines is taken before the
-/// edit is carried out.
+/// Carries out an edit and appends the changes, or its fault. The core is then as the edit leaves it, and the machines of its
+/// group were connected or disconnected. It allocates for the line and the machines before the edit is carried out.
+/// `AllocError` if an allocation fails; then nothing was accepted, and `out` may have a prefix of the line.
 #[tactic(auto, unfolding(crate::specs::Answers::answer_given))]
 pub fn reply(
     alloc: Global,
@@ -47,7 +46,7 @@ pub fn reply(
     }
 }
 
-/// Adds the line of an accepted edit, as `epoch 1 recut 1 moved 4`; there is room.
+/// Appends the line of an accepted edit, as `epoch 1 recut 1 moved 4`. The capacity must suffice.
 #[tactic(auto, unfolding(crate::specs::Answers::report_text))]
 fn add_report(epoch: u32, recut: u32, moved: u32, out: &mut String)
     requires { string_len out.old + LONGEST_REPORT ≤ string_capacity out.old }

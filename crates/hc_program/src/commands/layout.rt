@@ -8,8 +8,8 @@ use hc_records::limits::{MOST_DATAGRAMS, TASKS};
 use hc_text::printing::push_address;
 use std::alloc::AllocError;
 
-/// Adds the epoch, and the datagrams of each task that has one. `AllocError` where a growth was refused;
-/// `out` may then have a front of them.
+/// Appends the epoch, and the datagrams of each task that has one. `AllocError` if an allocation fails; then `out` may have a
+/// prefix of the lines.
 #[tactic(auto, unfolding(crate::specs::Layout::layout_text))]
 pub fn reply(plan: &Plan, out: &mut String) -> Result<(), AllocError>
     ensures { OnOk result (string_bytes out.new ≡ string_bytes out.old ++ layout_text plan.now) }
@@ -19,7 +19,7 @@ pub fn reply(plan: &Plan, out: &mut String) -> Result<(), AllocError>
     push_table(plan.places(), out)
 }
 
-/// Adds the lines of all eight tasks. `AllocError` if a growth is refused.
+/// Appends the lines of all eight tasks. `AllocError` if an allocation fails.
 #[tactic(auto, unfolding(crate::specs::Layout::table_text))]
 fn push_table(places: &Places, out: &mut String) -> Result<(), AllocError>
     ensures { OnOk result (string_bytes out.new ≡ string_bytes out.old ++ table_text places.now) }
@@ -30,7 +30,7 @@ fn push_table(places: &Places, out: &mut String) -> Result<(), AllocError>
     Ok(())
 }
 
-/// Adds the lines of a task, if it has a datagram.
+/// Appends the lines of a task, if it has a datagram.
 #[tactic(auto, unfolding(crate::specs::Layout::task_text))]
 fn push_task(places: &Places, task: u8, out: &mut String) -> Result<(), AllocError>
     ensures { OnOk result (string_bytes out.new ≡ string_bytes out.old ++ task_text places.now task) }
@@ -42,7 +42,7 @@ fn push_task(places: &Places, task: u8, out: &mut String) -> Result<(), AllocErr
     push_datagrams(places, task, out)
 }
 
-/// Adds the line with the sizes of a task's outputs and inputs, in bytes.
+/// Appends the line with the sizes of a task's outputs and inputs, in bytes.
 fn push_part(task: u8, part: (u16, u16), out: &mut String) -> Result<(), AllocError>
     ensures { OnOk result (string_bytes out.new ≡ string_bytes out.old ++ task_part_text task part) }
 {
@@ -50,7 +50,7 @@ fn push_part(task: u8, part: (u16, u16), out: &mut String) -> Result<(), AllocEr
     write!(out, "task {task} parts {outputs} {inputs}\n")
 }
 
-/// Adds the lines of a task's datagrams, in order.
+/// Appends the lines of a task's datagrams, in order.
 #[tactic(auto, unfolding(crate::specs::Layout::datagrams_text))]
 fn push_datagrams(places: &Places, task: u8, out: &mut String) -> Result<(), AllocError>
     ensures { OnOk result (string_bytes out.new ≡ string_bytes out.old ++ datagrams_text places.now task) }
@@ -61,7 +61,7 @@ fn push_datagrams(places: &Places, task: u8, out: &mut String) -> Result<(), All
     Ok(())
 }
 
-/// Adds the line of the datagram with a number, if the task has one.
+/// Appends the line of the datagram with a number, if the task has one.
 fn push_numbered(places: &Places, task: u8, number: u8, out: &mut String) -> Result<(), AllocError>
     ensures { OnOk result (string_bytes out.new ≡ string_bytes out.old ++ numbered_text places.now task number) }
 {
@@ -71,7 +71,7 @@ fn push_numbered(places: &Places, task: u8, number: u8, out: &mut String) -> Res
     }
 }
 
-/// Adds the line of a datagram: its number, logical address, length in bytes and expected working counter.
+/// Appends the line of a datagram: its number, logical address, length in bytes and expected working counter.
 #[tactic(auto, unfolding(crate::specs::Layout::datagram_text))]
 fn push_datagram(number: u8, datagram: Datagram, out: &mut String) -> Result<(), AllocError>
     ensures { OnOk result (string_bytes out.new ≡ string_bytes out.old ++ datagram_text number datagram) }

@@ -11,8 +11,7 @@ use hc_text::commands::{Peek, Poke};
 use hc_text::printing::{push_register, push_spaced_bytes};
 use std::alloc::AllocError;
 
-/// The position of the machine of the slave with a station address, or why there is none: `UnknownStation`, or
-/// `Absent`.
+/// Returns the position of the machine of the slave with a station address. Fails with `UnknownStation` or `Absent`.
 #[tactic(auto, unfolding(crate::specs::Memories::machine_at))]
 fn machine_at(session: &Session, station: u16) -> Result<usize, CoreFault>
     ensures at { result ≡ machine_at session.now station }
@@ -31,8 +30,8 @@ fn machine_at(session: &Session, station: u16) -> Result<usize, CoreFault>
     }
 }
 
-/// Writes bytes to the memory of a slave's machine, or adds why there is none. `AllocError` where a growth was refused;
-/// nothing was then written, and `out` may have a front of the line.
+/// Writes bytes to the memory of a slave's machine, or appends the fault. `AllocError` if an allocation fails; then nothing was
+/// written, and `out` may have a prefix of the line.
 pub fn reply_poke(poke: &Poke, session: &mut Session, out: &mut String) -> Result<(), AllocError>
     ensures text { OnOk result (string_bytes out.new ≡ string_bytes out.old ++ poke_text session.old poke.now) }
     ensures next { OnOk result (session.new ≡ poked_session_state session.old poke.now) }
@@ -49,7 +48,7 @@ pub fn reply_poke(poke: &Poke, session: &mut Session, out: &mut String) -> Resul
     }
 }
 
-/// The memory of the machine at a position.
+/// Returns the memory of the machine at a position.
 fn memory_at(session: &Session, position: usize) -> &[u8]
     requires { position < length session.now.machines }
     ensures bytes { result.now ≡ slice_index_or session.now.machines position [] }
@@ -61,8 +60,8 @@ fn memory_at(session: &Session, position: usize) -> &[u8]
     }
 }
 
-/// Adds bytes of the memory of a slave's machine, or why there is none. `AllocError` where a growth was refused; `out` may
-/// then have a front of the line.
+/// Appends bytes of the memory of a slave's machine, or the fault. `AllocError` if an allocation fails; then `out` may have a
+/// prefix of the line.
 pub fn reply_peek(peek: &Peek, session: &Session, out: &mut String) -> Result<(), AllocError>
     ensures { OnOk result (string_bytes out.new ≡ string_bytes out.old ++ peek_text session.now peek.now) }
 {
@@ -77,7 +76,7 @@ pub fn reply_peek(peek: &Peek, session: &Session, out: &mut String) -> Result<()
     }
 }
 
-/// Adds the line of bytes that are read from an address, both in hexadecimal.
+/// Appends the line of bytes that are read from an address, both in hexadecimal.
 #[tactic(auto, unfolding(crate::specs::Memories::memory_text))]
 fn push_memory(at: u16, bytes: &[u8], out: &mut String) -> Result<(), AllocError>
     ensures { OnOk result (string_bytes out.new ≡ string_bytes out.old ++ memory_text at bytes.now) }

@@ -10,11 +10,11 @@ use std::alloc::Global;
 use std::sync::Wait;
 use std::thread::Threads;
 
-/// The bytes of the longest line: its word, a number, and the line feed.
+/// The length of the longest line: its word, a number, and the line feed.
 const LONGEST_NAMED: usize = 7 + MOST_DIGITS;
 
-/// Gives each slave its station address along the line and adds how many took it. A `RefusedGrowth` where a growth was
-/// refused: no slave was written to then. Room for the line is taken before.
+/// Gives each slave its station address along the line and appends how many took it. It allocates for the line first. Returns a
+/// `RefusedGrowth` if an allocation fails; then no slave was written to.
 #[tactic(auto, unfolding(crate::specs::Setups::name_text))]
 pub fn reply<R: Threads + Wait + Sync>(
     rt: &R,
@@ -32,7 +32,7 @@ pub fn reply<R: Threads + Wait + Sync>(
     Ok(())
 }
 
-/// Adds the line; there is room.
+/// Appends the line. The capacity must suffice.
 fn add_named(count: usize, out: &mut String)
     requires { string_len out.old + LONGEST_NAMED ≤ string_capacity out.old }
     ensures { string_bytes out.new ≡ string_bytes out.old ++ named_text count }

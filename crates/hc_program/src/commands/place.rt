@@ -8,9 +8,8 @@ use hc_plan::plan::Plan;
 use hc_records::records::{Dir, VarId};
 use std::alloc::AllocError;
 
-/// Adds where the variable with a number is, or `none` where the line has no place for it; 0 is no
-/// variable's number. `AllocError` where a growth was refused; `out` may then have a front of the
-/// line.
+/// Appends the place of the variable with a number, or `none` if the line has no place for it; 0 is no variable's number.
+/// `AllocError` if an allocation fails; then `out` may have a prefix of the line.
 #[tactic(auto, unfolding(crate::specs::Place::place_text))]
 pub fn reply(plan: &Plan, number: u32, out: &mut String) -> Result<(), AllocError>
     ensures { OnOk result (string_bytes out.new ≡ string_bytes out.old ++ place_text plan.now number) }
@@ -21,7 +20,7 @@ pub fn reply(plan: &Plan, number: u32, out: &mut String) -> Result<(), AllocErro
     }
 }
 
-/// The place of the variable with a number.
+/// Returns the place of the variable with a number.
 fn numbered_place(plan: &Plan, number: u32) -> Option<Place>
     ensures { result ≡ numbered_place number (line plan.now) }
 {
@@ -31,7 +30,7 @@ fn numbered_place(plan: &Plan, number: u32) -> Option<Place>
     }
 }
 
-/// Adds the line of a variable: its number, task, datagram and bits.
+/// Appends the line of a variable: its number, task, datagram and bits.
 #[tactic(auto, unfolding(crate::specs::Place::variable_text))]
 fn push_place(number: u32, place: Place, out: &mut String) -> Result<(), AllocError>
     ensures { OnOk result (string_bytes out.new ≡ string_bytes out.old ++ variable_text number place) }
@@ -42,7 +41,7 @@ fn push_place(number: u32, place: Place, out: &mut String) -> Result<(), AllocEr
     push_bits(place, out)
 }
 
-/// Adds the bits in the datagram.
+/// Appends the bits in the datagram.
 #[tactic(auto, unfolding(crate::specs::Place::bits_text))]
 fn push_bits(place: Place, out: &mut String) -> Result<(), AllocError>
     ensures { OnOk result (string_bytes out.new ≡ string_bytes out.old ++ bits_text place) }
@@ -54,7 +53,7 @@ fn push_bits(place: Place, out: &mut String) -> Result<(), AllocError>
     out.push_str("\n")
 }
 
-/// Adds a direction, as `out` or `in`.
+/// Appends a direction, as `out` or `in`.
 fn push_dir(dir: Dir, out: &mut String) -> Result<(), AllocError>
     ensures { OnOk result (string_bytes out.new ≡ string_bytes out.old ++ dir_name dir) }
 {

@@ -16,12 +16,12 @@ use hc_text::commands::Posting;
 use hc_text::room::add_text;
 use std::alloc::{AllocError, Global};
 
-/// The bytes of the line of an accepted post.
+/// The length of the line of an accepted post.
 const POSTED: usize = 7;
 
-/// A task posts values, and `session_posted` is added; or why nothing is posted, or the refusal of a task over 7. A `Stop` where a
-/// growth was refused or the task's seat was given no view: nothing was then posted, and `out` may have a front of the
-/// line. Room for the line is taken before anything is posted.
+/// Posts values of a task and appends `session_posted`, or the reason for which nothing is posted, or the refusal of a task
+/// over 7. It allocates for the line first. Returns a `Stop` if an allocation fails or the task's seat gets no view; then
+/// nothing was posted, and `out` may have a prefix of the line.
 #[tactic(auto, unfolding(crate::specs::Posts::post_text))]
 pub fn reply(
     alloc: Global,
@@ -46,7 +46,7 @@ pub fn reply(
     }
 }
 
-/// Adds why nothing is posted. A `Stop` where that is a view or memory that is missing.
+/// Appends the reason for which nothing is posted. Returns a `Stop` if a view or memory is missing.
 fn say_post_refusal(refusal: PostRefusal, out: &mut String) -> Result<(), Stop>
     ensures text { OnOk result (string_bytes out.new ≡ string_bytes out.old ++ post_refusal_text refusal) }
     ensures judged { OnOk result ((refusal ≢ why.NoEntry) × (refusal ≢ why.Memory)) }
@@ -59,7 +59,7 @@ fn say_post_refusal(refusal: PostRefusal, out: &mut String) -> Result<(), Stop>
     }
 }
 
-/// The number that is printed for a refused post.
+/// Returns the number that is printed for a refused post.
 fn post_refusal_number(refusal: PostRefusal) -> u8
     ensures { result ≡ post_refusal_number refusal }
 {
@@ -74,7 +74,7 @@ fn post_refusal_number(refusal: PostRefusal) -> u8
     }
 }
 
-/// Adds the line of a refused post, as `refused 5 NoSpare`.
+/// Appends the line of a refused post, as `refused 5 NoSpare`.
 #[tactic(auto, unfolding(crate::specs::Posts::post_refusal_text))]
 fn push_post_refusal(refusal: PostRefusal, out: &mut String) -> Result<(), AllocError>
     ensures { OnOk result (string_bytes out.new ≡ string_bytes out.old ++ post_refusal_text refusal) }
@@ -85,7 +85,7 @@ fn push_post_refusal(refusal: PostRefusal, out: &mut String) -> Result<(), Alloc
     out.push_str("\n")
 }
 
-/// Adds the name of a post's refusal.
+/// Appends the name of a post's refusal.
 fn push_post_refusal_name(refusal: PostRefusal, out: &mut String) -> Result<(), AllocError>
     ensures { OnOk result (string_bytes out.new ≡ string_bytes out.old ++ post_refusal_name refusal) }
 {

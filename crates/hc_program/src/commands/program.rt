@@ -19,11 +19,11 @@ use std::alloc::Global;
 use std::sync::Wait;
 use std::thread::Threads;
 
-/// The bytes of the longest line: its words, two numbers, and the line feed.
+/// The length of the longest line: its words, two numbers, and the line feed.
 const LONGEST_PROGRAMMED: usize = 15 + 2 * MOST_DIGITS;
 
-/// Passes a frame along the line, and answers it as it comes back. A `RefusedGrowth` where a growth was refused: no machine has
-/// met it then.
+/// Passes a frame along the line, and returns it as it comes back. Returns a `RefusedGrowth` if an allocation fails; then no
+/// machine has seen it.
 fn pass<R: Threads + Wait + Sync>(
     rt: &R,
     alloc: Global,
@@ -44,8 +44,8 @@ fn pass<R: Threads + Wait + Sync>(
     }
 }
 
-/// Takes a frame in, and says whether it says that a block was written. A `RefusedGrowth` where a growth was refused: it has not
-/// arrived then.
+/// Hands in a frame, and returns whether it confirms a block. Returns a `RefusedGrowth` if an allocation fails; then the frame
+/// has not arrived.
 fn take_in(alloc: Global, frame: &[u8], session: &mut Session) -> Result<bool, RefusedGrowth>
     ensures done { IfOk result (λ done. done ≡ says_done (answer_to session.old.history (Arrives frame.now))) }
     ensures next { OnOk result (session.new ≡ stepped session.old (Arrives frame.now)) }
@@ -58,8 +58,8 @@ fn take_in(alloc: Global, frame: &[u8], session: &mut Session) -> Result<bool, R
     }
 }
 
-/// Sends the next write along the line and takes in what comes back: whether the block was written. Nothing is sent where
-/// no block is owed or no serial is left. A `RefusedGrowth` where a growth was refused.
+/// Sends the next write along the line, hands in the frame that returns, and returns whether the block was written. Nothing is
+/// sent if no block is owed or no serial is left. Returns a `RefusedGrowth` if an allocation fails.
 fn write_once<R: Threads + Wait + Sync>(
     rt: &R,
     alloc: Global,
@@ -78,7 +78,7 @@ fn write_once<R: Threads + Wait + Sync>(
     }
 }
 
-/// Writes owed blocks along the line until nothing is owed or a write isn't done, and answers how many were done.
+/// Writes owed blocks along the line until none is owed or a write fails, and returns how many were written.
 fn write_all<R: Threads + Wait + Sync>(
     rt: &R,
     alloc: Global,
@@ -94,9 +94,9 @@ fn write_all<R: Threads + Wait + Sync>(
     Ok(count)
 }
 
-/// Writes owed blocks along the line, the first one again and again, until nothing is owed or a write isn't done, and adds
-/// how many were done and how many are owed then. A `RefusedGrowth` where a growth was refused: what was done is. Room for the line
-/// is taken before.
+/// Writes owed blocks along the line, always the first one, until none is owed or a write fails, and appends how many were
+/// written and how many are owed then. It allocates for the line first. Returns a `RefusedGrowth` if an allocation fails; then
+/// what was done before is done.
 #[tactic(auto, unfolding(crate::specs::Programs::program_text))]
 pub fn reply<R: Threads + Wait + Sync>(
     rt: &R,
@@ -114,7 +114,7 @@ pub fn reply<R: Threads + Wait + Sync>(
     Ok(())
 }
 
-/// Adds the line; there is room.
+/// Appends the line. The capacity must suffice.
 fn add_programmed(done: u64, owed: u32, out: &mut String)
     requires { string_len out.old + LONGEST_PROGRAMMED ≤ string_capacity out.old }
     ensures { string_bytes out.new ≡ string_bytes out.old ++ programmed_text done owed }

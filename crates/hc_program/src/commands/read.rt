@@ -10,8 +10,8 @@ use hc_records::items::Items;
 use hc_text::printing::push_bytes;
 use std::alloc::{AllocError, Global};
 
-/// Adds what a task reads: the epoch, and of each datagram its data or none; or the refusal of a task over
-/// 7. `AllocError` where a growth was refused; `out` may then have a front of the lines.
+/// Appends the image of a task: the epoch, and each datagram's data or `none`; or the refusal of a task over 7. `AllocError` if
+/// an allocation fails; then `out` may have a prefix of the lines.
 #[tactic(auto, unfolding(crate::specs::Answers::answer_given))]
 pub fn reply(alloc: Global, task: u8, core: &Core, out: &mut String) -> Result<(), AllocError>
     ensures { OnOk result (string_bytes out.new ≡ string_bytes out.old ++ answer_given core.now.history (Reads task)) }
@@ -23,7 +23,7 @@ pub fn reply(alloc: Global, task: u8, core: &Core, out: &mut String) -> Result<(
     }
 }
 
-/// Adds the line of the epoch, and the lines of a task's datagrams.
+/// Appends the line of the epoch, and the lines of a task's datagrams.
 #[tactic(auto, unfolding(crate::specs::Answers::image_text))]
 fn push_image(epoch: u32, slots: &[Option<Items<u8>>], out: &mut String) -> Result<(), AllocError>
     ensures { OnOk result (string_bytes out.new ≡ string_bytes out.old ++ image_text epoch slots.now) }
@@ -32,7 +32,7 @@ fn push_image(epoch: u32, slots: &[Option<Items<u8>>], out: &mut String) -> Resu
     push_slots(slots, out)
 }
 
-/// Adds the lines of a task's datagrams.
+/// Appends the lines of a task's datagrams.
 fn push_slots(slots: &[Option<Items<u8>>], out: &mut String) -> Result<(), AllocError>
     ensures { OnOk result (string_bytes out.new ≡ string_bytes out.old ++ slots_text 0 slots.now) }
 {
@@ -44,7 +44,7 @@ fn push_slots(slots: &[Option<Items<u8>>], out: &mut String) -> Result<(), Alloc
     Ok(())
 }
 
-/// Adds the line of a datagram: its number, and its data or `none`.
+/// Appends the line of a datagram: its number, and its data or `none`.
 #[tactic(auto, unfolding(crate::specs::Answers::slot_text))]
 fn push_slot(number: usize, slot: &Option<Items<u8>>, out: &mut String) -> Result<(), AllocError>
     ensures { OnOk result (string_bytes out.new ≡ string_bytes out.old ++ slot_text number slot.now) }
@@ -54,7 +54,7 @@ fn push_slot(number: usize, slot: &Option<Items<u8>>, out: &mut String) -> Resul
     out.push_str("\n")
 }
 
-/// Adds the data of a datagram, or `none`.
+/// Appends the data of a datagram, or `none`.
 fn push_data(slot: &Option<Items<u8>>, out: &mut String) -> Result<(), AllocError>
     ensures { OnOk result (string_bytes out.new ≡ string_bytes out.old ++ data_text slot.now) }
 {

@@ -14,11 +14,11 @@ use hc_registers::registers::{
 use hc_text::printing::{push_register, push_spaced_bytes};
 use std::alloc::AllocError;
 
-/// The blocks of a slave at most: two for each area.
+/// The most blocks of a slave: two for each area.
 const MOST_BLOCKS: u8 = 2 * MOST_AREAS as u8;
 
-/// Adds the blocks of the slave of the line with the station address, or why there is none. `AllocError`
-/// where a growth was refused; `out` may then have a front of them.
+/// Appends the blocks of the slave of the line with a station address, or the fault. `AllocError` if an allocation fails; then
+/// `out` may have a prefix of the lines.
 #[tactic(auto, unfolding(crate::specs::Regs::regs_text))]
 pub fn reply(plan: &Plan, station: u16, out: &mut String) -> Result<(), AllocError>
     ensures { OnOk result (string_bytes out.new ≡ string_bytes out.old ++ regs_text plan.now station) }
@@ -29,7 +29,7 @@ pub fn reply(plan: &Plan, station: u16, out: &mut String) -> Result<(), AllocErr
     }
 }
 
-/// Adds the lines of all register blocks of a slave, in order.
+/// Appends the lines of all register blocks of a slave, in order.
 #[tactic(auto, unfolding(crate::specs::Regs::blocks_text))]
 fn push_blocks(plan: &Plan, station: u16, out: &mut String) -> Result<(), AllocError>
     ensures { OnOk result (string_bytes out.new ≡ string_bytes out.old ++ blocks_text (line plan.now) station) }
@@ -40,7 +40,7 @@ fn push_blocks(plan: &Plan, station: u16, out: &mut String) -> Result<(), AllocE
     Ok(())
 }
 
-/// Adds the line of the block with a number, if the slave has one.
+/// Appends the line of the block with a number, if the slave has one.
 fn push_numbered(plan: &Plan, station: u16, number: u8, out: &mut String) -> Result<(), AllocError>
     ensures { OnOk result (string_bytes out.new ≡ string_bytes out.old ++ numbered_block_text (line plan.now) station number) }
 {
@@ -50,7 +50,7 @@ fn push_numbered(plan: &Plan, station: u16, number: u8, out: &mut String) -> Res
     }
 }
 
-/// Adds the line of a register block: its sync manager or FMMU, its register and its bytes.
+/// Appends the line of a register block: its sync manager or FMMU, its register and its bytes.
 #[tactic(auto, unfolding(crate::specs::Regs::block_text))]
 fn push_block(block: &Block, out: &mut String) -> Result<(), AllocError>
     ensures { OnOk result (string_bytes out.new ≡ string_bytes out.old ++ block_text block.now) }
@@ -63,7 +63,7 @@ fn push_block(block: &Block, out: &mut String) -> Result<(), AllocError>
     out.push_str("\n")
 }
 
-/// Adds the sync manager or the FMMU whose block begins at a register.
+/// Appends the sync manager or the FMMU whose block begins at a register.
 fn push_block_name(register: u16, out: &mut String) -> Result<(), AllocError>
     ensures { OnOk result (string_bytes out.new ≡ string_bytes out.old ++ block_name register) }
 {

@@ -9,8 +9,8 @@ use std::alloc::{AllocError, Global};
 use std::sync::Wait;
 use std::thread::Threads;
 
-/// Reads the alias of each slave along the line and adds them, position by position. A `RefusedGrowth` where a growth was
-/// refused: `out` may then have a front of the lines.
+/// Reads the alias of each slave along the line and appends them, position by position. Returns a `RefusedGrowth` if an
+/// allocation fails; then `out` may have a prefix of the lines.
 #[tactic(auto, unfolding(crate::specs::Setups::scan_text))]
 pub fn reply<R: Threads + Wait + Sync>(
     rt: &R,
@@ -27,7 +27,7 @@ pub fn reply<R: Threads + Wait + Sync>(
     Ok(())
 }
 
-/// Adds a line for each slave of the segment, in order: its position and its alias.
+/// Appends a line for each slave of the segment, in order: its position and its alias.
 fn push_aliases(aliases: &[u16], out: &mut String) -> Result<(), AllocError>
     ensures { OnOk result (string_bytes out.new ≡ string_bytes out.old ++ aliases_text 0 aliases.now) }
 {
@@ -39,7 +39,7 @@ fn push_aliases(aliases: &[u16], out: &mut String) -> Result<(), AllocError>
     Ok(())
 }
 
-/// Adds the line of a slave's position and alias.
+/// Appends the line of a slave's position and alias.
 #[tactic(auto, unfolding(crate::specs::Setups::alias_text))]
 fn push_alias(position: usize, alias: u16, out: &mut String) -> Result<(), AllocError>
     ensures { OnOk result (string_bytes out.new ≡ string_bytes out.old ++ alias_text position alias) }

@@ -15,9 +15,9 @@ use hc_events::sending::Sending;
 use hc_events::together::Together;
 use std::alloc::{AllocError, Global};
 
-/// Sends tasks and adds the frames where they are sent, `no frame` where they have no datagram, or why
-/// the sending is refused. `AllocError` where a growth was refused; nothing was then sent, and `out` may
-/// have a front of the lines. The frames are sent when their lines are there.
+/// Sends tasks and appends their frames, `no frame` if they have no datagram, or the fault if the sending is refused. The
+/// frames are sent when their lines are complete. `AllocError` if an allocation fails; then nothing was sent, and `out` may
+/// have a prefix of the lines.
 #[tactic(auto, unfolding(crate::specs::Answers::answer_given))]
 pub fn reply(
     alloc: Global,
@@ -38,7 +38,7 @@ pub fn reply(
     Ok(())
 }
 
-/// Adds the lines of frames of the present line, or that there is none.
+/// Appends the lines of frames of the present line, or `no frame` if there is none.
 fn push_frames(core: &Core, frames: &[Sending], out: &mut String) -> Result<(), AllocError>
     requires { All (CanBeFilled core.now.history) frames.now }
     ensures { OnOk result (string_bytes out.new ≡ string_bytes out.old ++ proposed_text core.now.history frames.now) }
@@ -49,7 +49,7 @@ fn push_frames(core: &Core, frames: &[Sending], out: &mut String) -> Result<(), 
     push_sent(core, frames, out)
 }
 
-/// Adds the lines of frames of the present line.
+/// Appends the lines of frames of the present line.
 fn push_sent(core: &Core, frames: &[Sending], out: &mut String) -> Result<(), AllocError>
     requires { All (CanBeFilled core.now.history) frames.now }
     ensures { OnOk result (string_bytes out.new ≡ string_bytes out.old ++ flat_map (proposed_line core.now.history) frames.now) }

@@ -7,11 +7,11 @@ use crate::session::Session;
 use hc_text::room::{MOST_DIGITS, add_number, add_text};
 use std::alloc::AllocError;
 
-/// The bytes of the longest line: its words, two numbers, and the line feed.
+/// The length of the longest line: its words, two numbers, and the line feed.
 const LONGEST_TAKEN: usize = 16 + 2 * MOST_DIGITS;
 
-/// Hands what tasks posted to the core and adds how many posts it accepted, and how many it refused since another epoch
-/// has begun. `AllocError` where a growth was refused; no post was then taken. Room for the line is taken before.
+/// Hands the tasks' posts to the core and appends how many it accepted, and how many it refused because another epoch has
+/// begun. It allocates for the line first. `AllocError` if an allocation fails; then no post was taken.
 #[tactic(auto, unfolding(crate::specs::Takings::take_text))]
 pub fn reply(session: &mut Session, out: &mut String) -> Result<(), AllocError>
     ensures text { OnOk result (string_bytes out.new ≡ string_bytes out.old ++ take_text session.old) }
@@ -24,7 +24,7 @@ pub fn reply(session: &mut Session, out: &mut String) -> Result<(), AllocError>
     Ok(())
 }
 
-/// Adds the line; there is room.
+/// Appends the line. The capacity must suffice.
 #[tactic(auto, unfolding(crate::specs::Takings::taken_text))]
 fn add_taken(accepted: u32, refused: u32, out: &mut String)
     requires { string_len out.old + LONGEST_TAKEN ≤ string_capacity out.old }

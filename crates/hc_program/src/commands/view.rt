@@ -12,8 +12,8 @@ use hc_publish::view_faults::ViewFault;
 use hc_records::limits::TASKS;
 use std::alloc::AllocError;
 
-/// Adds what a task views of a variable: the epoch and the value, or why it gets none, or the refusal of a task over
-/// 7. A `Stop` where a growth was refused or the task's seat was given no view; `out` may then have a front of the line.
+/// Appends a task's view of a variable: the epoch and the value, or the fault, or the refusal of a task over 7. Returns a
+/// `Stop` if an allocation fails or the task's seat gets no view; then `out` may have a prefix of the line.
 #[tactic(auto, unfolding(crate::specs::Views::view_text))]
 pub fn reply(task: u8, variable: u32, session: &mut Session, out: &mut String) -> Result<(), Stop>
     ensures text { OnOk result (string_bytes out.new ≡ string_bytes out.old ++ view_text session.old.seen task variable) }
@@ -27,7 +27,7 @@ pub fn reply(task: u8, variable: u32, session: &mut Session, out: &mut String) -
     Ok(push_viewed(viewed, variable, out)?)
 }
 
-/// Adds the epoch and the value of a view, or why there is no value.
+/// Appends the epoch and the value of a view, or the fault.
 fn push_viewed(viewed: Viewed, variable: u32, out: &mut String) -> Result<(), AllocError>
     ensures { OnOk result (string_bytes out.new ≡ string_bytes out.old ++ viewed_text viewed.epoch variable viewed.value) }
 {
@@ -37,7 +37,7 @@ fn push_viewed(viewed: Viewed, variable: u32, out: &mut String) -> Result<(), Al
     }
 }
 
-/// Adds the line of a viewed variable: the epoch, its number and its value.
+/// Appends the line of a viewed variable: the epoch, its number and its value.
 #[tactic(auto, unfolding(crate::specs::Views::value_text))]
 fn push_value(epoch: u32, variable: u32, value: u64, out: &mut String) -> Result<(), AllocError>
     ensures { OnOk result (string_bytes out.new ≡ string_bytes out.old ++ value_text epoch variable value) }
@@ -45,7 +45,7 @@ fn push_value(epoch: u32, variable: u32, value: u64, out: &mut String) -> Result
     write!(out, "epoch {epoch} var {variable} value {value}\n")
 }
 
-/// Adds the line of a refused view, as `refused 4 NotAnswered`.
+/// Appends the line of a refused view, as `refused 4 NotAnswered`.
 #[tactic(auto, unfolding(crate::specs::Views::view_fault_text))]
 fn push_view_fault(fault: ViewFault, out: &mut String) -> Result<(), AllocError>
     ensures { OnOk result (string_bytes out.new ≡ string_bytes out.old ++ view_fault_text fault) }
@@ -56,7 +56,7 @@ fn push_view_fault(fault: ViewFault, out: &mut String) -> Result<(), AllocError>
     out.push_str("\n")
 }
 
-/// Adds the name of the fault for which a task has no value.
+/// Appends the name of the fault for which a task has no value.
 fn push_view_fault_name(fault: ViewFault, out: &mut String) -> Result<(), AllocError>
     ensures { OnOk result (string_bytes out.new ≡ string_bytes out.old ++ view_fault_name fault) }
 {

@@ -11,17 +11,14 @@ use crate::session::Session;
 use hc_text::room::{MOST_DIGITS, add_bytes, add_number, add_text};
 use std::alloc::AllocError;
 
-/// The bytes of a frame that writes a register block, of at most 16 bytes: zeros fill it up to the least
-/// frame.
+/// The length of a frame that writes a register block of at most 16 bytes: zeros fill it up to the shortest frame.
 pub(crate) const WRITE_FRAME: usize = 60;
 
-/// The bytes of the longest line of such a frame: its words, the serial, two digits a byte, and the line
-/// feed.
+/// The length of the longest line of such a frame: its words, the serial, two digits a byte, and the line feed.
 const LONGEST_SENT: usize = 8 + MOST_DIGITS + 2 * WRITE_FRAME;
 
-/// Sends the first owed register block and adds its frame, or why the write is refused. `AllocError`
-/// where a growth was refused; nothing was then sent, and `out` may have a front of the line. Room for the
-/// line is taken before the block is sent.
+/// Sends the first owed register block and appends its frame, or the fault. It allocates for the line first. `AllocError` if an
+/// allocation fails; then nothing was sent, and `out` may have a prefix of the line.
 #[tactic(auto, unfolding(crate::specs::Answers::answer_given))]
 pub fn reply(session: &mut Session, out: &mut String) -> Result<(), AllocError>
     ensures text { OnOk result (string_bytes out.new ≡ string_bytes out.old ++ answer_given session.old.history SendsWrite) }
@@ -40,7 +37,7 @@ pub fn reply(session: &mut Session, out: &mut String) -> Result<(), AllocError>
     }
 }
 
-/// Adds the line of a frame that is sent; there is room.
+/// Appends the line of a frame that is sent. The capacity must suffice.
 #[tactic(auto, unfolding(crate::specs::Frames::frame_line))]
 fn add_sent(serial: u64, frame: &[u8], out: &mut String)
     requires frame { length frame.now ≤ WRITE_FRAME }

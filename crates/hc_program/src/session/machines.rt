@@ -1,4 +1,4 @@
-//! The machines of the simulated line: what goes along it, which of them come and go, and their memory.
+//! The machines of the simulated line: frames that pass them, edits that connect or disconnect them, and their memory.
 ghost use Rattle.std.specs.Prelude.{◌≡◌, ◌⊎◌, ◌+◌, ◌<◌, ◌≤◌, IfOk, IfSome, OnErr, OnOk, length, option_map, slice_get};
 ghost use Rattle.std.specs.Option.{option_copied, option_map_or};
 ghost use Rattle.hc_events.specs.Points.{line_of, state_of};
@@ -18,8 +18,8 @@ use std::sync::Wait;
 use std::thread::Threads;
 
 impl Session {
-    /// Passes frames along the line, and answers them as they come back. `ChainFault` where a growth was refused: no
-    /// machine has met a frame then.
+    /// Passes frames along the line, and returns them as they come back. Returns a `ChainFault` if an allocation fails; then no
+    /// machine has seen a frame.
     pub(crate) fn pass<R: Threads + Wait + Sync>(
         &mut self,
         rt: &R,
@@ -33,8 +33,8 @@ impl Session {
         self.line.pass(rt, alloc, frames)
     }
 
-    /// Reads the configured station alias of each machine along the line. `ChainFault` where a growth was refused: no
-    /// machine was read then, or all were.
+    /// Reads the configured station alias of each machine along the line. Returns a `ChainFault` if an allocation fails; then
+    /// no machine was read, or all were.
     pub(crate) fn scan<R: Threads + Wait + Sync>(
         &mut self,
         rt: &R,
@@ -47,8 +47,8 @@ impl Session {
         self.line.scan(rt, alloc)
     }
 
-    /// Gives each slave of the line its station address along the line, and answers how many of the writes came back with
-    /// the working counter 1. `ChainFault` where a growth was refused: no slave was written to then.
+    /// Gives each slave of the line its station address along the line, and returns how many of the writes came back with
+    /// working counter 1. Returns a `ChainFault` if an allocation fails; then no slave was written to.
     pub(crate) fn name<R: Threads + Wait + Sync>(
         &mut self,
         rt: &R,
@@ -62,8 +62,7 @@ impl Session {
         self.line.name(rt, alloc, groups)
     }
 
-    /// What an edit would change of the machines; none where it would change nothing. `AllocError` where a growth was
-    /// refused.
+    /// Returns the change of the machines for an edit, or `None` if the edit changes none. `AllocError` if an allocation fails.
     pub(crate) fn prepare(&self, alloc: Global, edit: &Edit) -> Result<Option<LineEdit>, AllocError>
         ensures replacement { IfOk result (λ ready. option_map (λ r. r.replacement) ready ≡ replacement (state_of self.now.history).groups edit.now) }
         ensures count { IfOk result (λ ready. IfSome ready (λ r. r.count ≡ length self.now.machines)) }
@@ -72,7 +71,7 @@ impl Session {
             .prepare(alloc, self.master.core().plan().groups(), edit)
     }
 
-    /// Machines come and go as it was prepared, if anything was.
+    /// Connects or disconnects machines as prepared, if anything was.
     pub(crate) fn carry_out(&mut self, ready: Option<LineEdit>)
         requires { IfSome ready (λ r. r.count ≡ length self.old.machines) }
         ensures { self.new ≡ with_machines self.old (option_map_or (λ r. machines_replaced r self.old.machines) (option_map (λ r. r.replacement) ready) self.old.machines) }
@@ -82,14 +81,14 @@ impl Session {
         }
     }
 
-    /// How many machines there are.
+    /// Returns the number of machines.
     pub(crate) fn machines(&self) -> usize
         ensures { result ≡ length self.now.machines }
     {
         self.line.len()
     }
 
-    /// The memory of the machine at a position of the line; none where there is no such machine.
+    /// Returns the memory of the machine at a position of the line, or `None` if there is no such machine.
     pub(crate) fn memory(&self, position: usize) -> Option<&[u8]>
         ensures bytes { option_copied result ≡ slice_get self.now.machines position }
         ensures size { IfSome result (λ memory. length memory.now ≡ MEMORY_BYTES) }
@@ -97,7 +96,7 @@ impl Session {
         self.line.memory(position)
     }
 
-    /// Puts bytes in the place of those of the memory of the machine at a position, from byte `at` on.
+    /// Replaces bytes of the memory of the machine at a position, from byte `at` on.
     pub(crate) fn write_memory(&mut self, position: usize, at: usize, bytes: &[u8])
         requires { at + length bytes.now ≤ MEMORY_BYTES }
         ensures { self.new ≡ with_machines self.old (poked position at bytes.now self.old.machines) }

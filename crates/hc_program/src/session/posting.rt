@@ -1,4 +1,4 @@
-//! What a task posts in a run.
+//! Posts of tasks in a run.
 ghost use Rattle.std.specs.Prelude.{◌≡◌, ◌≢◌, ◌<◌, IfErr, None, OnErr, OnOk, Some};
 ghost use Rattle.hc_records.specs.declared.limits.TheConstants.{TASKS};
 ghost use Rattle.hc_conductor.specs.declared.one_thread.refusals.PostRefusal.TheVariants as why;
@@ -6,14 +6,17 @@ ghost use Rattle.hc_program.specs.Postings.{post_judged, with_posted};
 
 use super::Session;
 use hc_conductor::one_thread::refusals::PostRefusal;
-use hc_conductor::one_thread::settings::Setting;
 use hc_events::laws::changes_show_all;
+use hc_records::setting::Setting;
 use std::alloc::Global;
 
 impl Session {
-    /// A task, 0 to 7, posts values for its output variables, at their places in what was published last and for its
-    /// epoch. The first value that is refused decides, and else whether four posts of the task wait. `NoEntry` where its
-    /// seat was given no view, `Memory` where a growth was refused. Then nothing is posted.
+    /// Posts values for output variables of a task, 0 to 7, at their places in what was published last and for its epoch. Fails
+    /// with one of these; then nothing is posted:
+    ///
+    /// - The reason of the first value that is refused; otherwise `NoSpare` if four posts of the task wait.
+    /// - `NoEntry`: the task's seat gets no view.
+    /// - `Memory`: an allocation failed.
     pub(crate) fn post(
         &mut self,
         alloc: Global,
@@ -26,7 +29,7 @@ impl Session {
         ensures refused { IfErr result (λ refusal. refusal ≢ why.NoEntry → refusal ≢ why.Memory → post_judged self.old task settings.now ≡ Some refusal) }
         ensures unchanged { OnErr result (self.new ≡ self.old) }
     {
-        // what is shown is the table of the line that was published last
+        // the shown state is the table of the line that was published last
         changes_show_all();
         self.master.post(alloc, task, settings)
     }

@@ -1,4 +1,4 @@
-//! What the publisher does.
+//! Steps of the publisher.
 ghost use Rattle.std.specs.Prelude.{◌≡◌, [], ◌∷◌, ◌++◌, false, IfOk, MatchResult};
 ghost use Rattle.hc_events.specs.Changes.{AreLegal};
 ghost use Rattle.hc_publish.specs.PublishedState.{published, pending, origin_of};
@@ -28,7 +28,7 @@ impl Plain<Copies, Shown, u64> for Add {
 }
 
 impl Publisher {
-    /// Adds a change that views do not show yet. `Kept` hands it back where the list's growth was refused.
+    /// Appends a change that views do not show yet. If the list's allocation fails, `Kept` returns the change.
     pub fn append(&mut self, change: Change) -> Result<(), Kept>
         requires { AreLegal (origin_of self.old).groups (published self.old ++ pending self.old ++ change ∷ []) }
         ensures published { published self.new ≡ published self.old }
@@ -45,8 +45,8 @@ impl Publisher {
         }
     }
 
-    /// Adds what is about to be shown to the publication log, and a seal after the pending changes. `AllocError` if a growth is
-    /// refused; what is published and pending stays as it was.
+    /// Adds the list that is about to be shown to the publication log, and a seal after the pending changes. `AllocError` if an
+    /// allocation fails; what is published and pending is unchanged.
     fn seal(&mut self) -> Result<(), AllocError>
         requires { AreFew false self.old.steps }
         ensures same { AreSame self.old self.new }
@@ -55,7 +55,7 @@ impl Publisher {
         let Some(next) = self.front.with::<Copies, Add>(&self.head, &self.writer) else {
             return Err(AllocError);
         };
-        // the log has the entry from now on, also where the seal is refused
+        // the log has the entry from now on, even if the seal is refused
         let seal = next.again();
         self.front = next;
         self.is_sealed = false;
@@ -68,8 +68,8 @@ impl Publisher {
         }
     }
 
-    /// The publisher after it exchanged the copies, so that the pending changes are published. `AllocError` if a growth is
-    /// refused; then they stay pending.
+    /// Exchanges the copies, so that the pending changes are published, and returns the publisher. `AllocError` if an
+    /// allocation fails; then they stay pending.
     fn exchanged<R: Wait>(self, rt: &R) -> (Publisher, Result<(), AllocError>)
         requires { IsReadyToShow self }
         ensures lists { MatchResult result.1 (λ _. ShowsPending self result.0) (λ _. ShowsNoMore self result.0) }
@@ -103,7 +103,7 @@ impl Publisher {
         }
     }
 
-    /// Puts a seal after the pending changes, unless they have one. The errors are those of `seal`.
+    /// Adds a seal after the pending changes, unless they have one. Fails as `seal` does.
     fn be_sealed(&mut self) -> Result<(), AllocError>
         ensures same { AreSame self.old self.new }
         ensures ready { IfOk result (λ _. IsReadyToShow self.new) }
@@ -114,8 +114,8 @@ impl Publisher {
         self.seal()
     }
 
-    /// Shows the views to come all pending changes at once. It waits while a view of the old copy lives.
-    /// `AllocError` where a growth was refused: then nothing new is published, and all stays pending.
+    /// Publishes all pending changes at once; views that begin later show them. It waits while a view of the old copy lives.
+    /// `AllocError` if an allocation fails; then nothing new is published, and everything stays pending.
     pub fn publish<R: Wait>(&mut self, rt: &R) -> Result<(), AllocError>
         ensures lists { MatchResult result (λ _. ShowsPending self.old self.new) (λ _. ShowsNoMore self.old self.new) }
         ensures origin { origin_of self.new ≡ origin_of self.old }
@@ -135,7 +135,7 @@ impl Publisher {
         )
     }
 
-    /// A note of what is published, for a seat of this publisher to learn.
+    /// Returns a note of what is published, which a seat of this publisher can learn.
     pub fn note(&self) -> Note
         ensures carried { noted_changes result ≡ published self.now }
         ensures origin { note_origin result ≡ origin_of self.now }
@@ -145,16 +145,15 @@ impl Publisher {
         }
     }
 
-    /// A good answer that both copies have taken in, for its memory; none where none is left. Up to 128 of those that
-    /// the last publishing took in for the second time are there; who takes them out after each publishing, and fills
-    /// them with the next answers, has a cycle of answers and one publishing that takes no memory. It waits for
-    /// nobody.
+    /// Returns a good answer that both copies have applied, for its buffer, or `None` if no such answer is left. At most 128
+    /// answers are stored, of those that the last publishing applied to the second copy. A caller that takes all of them after
+    /// each publishing, and fills their buffers with the next answers, has cycles without an allocation. It waits for nobody.
     pub fn spare(&self) -> Option<GoodAnswer> {
         let mut used = self.writer.published().used.try_lock()?;
         used.pop()
     }
 
-    /// A new seat of a task, which knows what is published.
+    /// Returns a new seat of a task, which knows what is published.
     pub(crate) fn seat(&mut self, task: u8) -> Result<Seat, AllocError>
         ensures same { AreSame self.old self.new }
         ensures knows { IfOk result (λ seat. (known seat ≡ published self.old) × (seat_origin seat ≡ origin_of self.old) × (seat.task ≡ task)) }
@@ -169,8 +168,8 @@ impl Publisher {
         })
     }
 
-    /// Waits for the views that live, and ends the publisher. It takes no memory. Seats that are left show what
-    /// was published to nobody: their `view` has no entry.
+    /// Waits for the views that live, and ends the publisher. It allocates nothing. Seats that remain have no entry: their
+    /// `view` returns none.
     pub fn finish<R: Wait>(self, rt: &R) {
         let Publisher {
             writer,

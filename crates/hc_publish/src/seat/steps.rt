@@ -1,4 +1,4 @@
-//! What a seat does.
+//! Steps of a seat: views and learning.
 ghost use Rattle.std.specs.Prelude.{◌≡◌, ◌⊎◌, MatchResult, IfOk};
 ghost use mathlib.Core.List.{IsPrefix};
 ghost use Rattle.hc_publish.specs.ChangesSince.{IsLegal};
@@ -11,8 +11,8 @@ use crate::rule::Looks;
 use crate::view::View;
 
 impl Seat {
-    /// Looks at what is published now: a legal list that begins with all that the seat saw or learnt. The seat
-    /// comes back as it was where there was no entry. It waits for nobody and takes no memory.
+    /// Views what is published now: a legal list that begins with all that the seat saw or learnt. Returns the seat unchanged
+    /// if there is no entry. It allocates nothing and waits for nobody.
     pub fn view(self) -> Result<View, Seat>
         ensures begins { MatchResult result (λ view. IsPrefix (known self) (shown view)) (λ seat. known seat ≡ known self) }
         ensures legal { IfOk result (λ view. IsLegal view.changes_since) }
@@ -44,9 +44,8 @@ impl Seat {
         }
     }
 
-    /// Looks at just what a note carries, which is published still where the publisher has not published since. The seat
-    /// comes back as it was where there was no entry, or where something else is published. It waits for nobody and takes
-    /// no memory.
+    /// Views exactly what a note carries, if that is still published: the publisher has not published since. Returns the seat
+    /// unchanged if there is no entry, or if something else is published. It allocates nothing and waits for nobody.
     pub fn view_of(self, note: &Note) -> Result<View, Seat>
         requires { note_origin note.now ≡ seat_origin self }
         ensures exact { MatchResult result (λ view. shown view ≡ noted_changes note.now) (λ seat. known seat ≡ known self) }
@@ -72,8 +71,8 @@ impl Seat {
         })
     }
 
-    /// Takes in what a note of the seat's publisher carries: the seat then knows the longer of the two lists, which
-    /// begins with the other. It waits for nobody and takes no memory.
+    /// Learns what a note of the seat's publisher carries. The seat then knows the longer of the two lists, which begins with
+    /// the other. It allocates nothing and waits for nobody.
     pub fn learn(&mut self, note: Note)
         requires { note_origin note ≡ seat_origin self.old }
         ensures one { (known self.new ≡ known self.old) ⊎ (known self.new ≡ noted_changes note) }

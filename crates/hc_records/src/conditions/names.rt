@@ -1,5 +1,4 @@
-//! Whether a name of the whole project is twice: an alias, a station address, a variable. The names
-//! go through an ordered set.
+//! Names of the whole project that occur twice: aliases, station addresses, variables. An ordered set finds them.
 ghost use Rattle.std.specs.Prelude.{◌≡◌, ◌++◌, IfOk, OnOk, map};
 ghost use Rattle.hc_records.specs.Lists.{has_repeat};
 ghost use Rattle.hc_records.specs.Project.{area_names, entry_names, has_repeated_alias, has_repeated_station, has_repeated_variable, pdo_names, slave_names};
@@ -8,7 +7,7 @@ use crate::records::{Area, Entry, Group, Pdo, Slave};
 use std::alloc::{AllocError, Global};
 use std::collections::BTreeSet;
 
-/// Whether a number is twice, by a set of those seen.
+/// Returns whether a number occurs twice, by a set of those seen.
 fn repeats(alloc: Global, numbers: &[u32]) -> Result<bool, AllocError>
     ensures { IfOk result (λ found. found ≡ has_repeat numbers.now) }
 {
@@ -21,7 +20,7 @@ fn repeats(alloc: Global, numbers: &[u32]) -> Result<bool, AllocError>
     Ok(false)
 }
 
-/// Whether two groups have one alias.
+/// Returns whether two groups have one alias.
 pub fn repeats_alias(alloc: Global, groups: &[Group]) -> Result<bool, AllocError>
     ensures { IfOk result (λ found. found ≡ has_repeated_alias groups.now) }
 {
@@ -32,7 +31,7 @@ pub fn repeats_alias(alloc: Global, groups: &[Group]) -> Result<bool, AllocError
     repeats(alloc, &aliases)
 }
 
-/// Adds the station addresses of slaves, in order. `AllocError` if a growth is refused.
+/// Appends the station addresses of slaves, in order. `AllocError` if an allocation fails.
 fn add_stations(stations: &mut Vec<u32>, slaves: &[Slave]) -> Result<(), AllocError>
     ensures { OnOk result (stations.new.items ≡ stations.old.items ++ map (λ slave. slave.station) slaves.now) }
 {
@@ -42,7 +41,7 @@ fn add_stations(stations: &mut Vec<u32>, slaves: &[Slave]) -> Result<(), AllocEr
     Ok(())
 }
 
-/// Whether two slaves have one station address.
+/// Returns whether two slaves have one station address.
 pub fn repeats_station(alloc: Global, groups: &[Group]) -> Result<bool, AllocError>
     ensures { IfOk result (λ found. found ≡ has_repeated_station groups.now) }
 {
@@ -53,7 +52,8 @@ pub fn repeats_station(alloc: Global, groups: &[Group]) -> Result<bool, AllocErr
     repeats(alloc, &stations)
 }
 
-/// Adds the variables of a PDO's entries, in order. An entry without a variable adds none. `AllocError` if a growth is refused.
+/// Appends the variables of a PDO's entries, in order; an entry without a variable has none. `AllocError` if an allocation
+/// fails.
 fn add_entry_names(names: &mut Vec<u32>, entries: &[Entry]) -> Result<(), AllocError>
     ensures { OnOk result (names.new.items ≡ names.old.items ++ entry_names entries.now) }
 {
@@ -65,7 +65,7 @@ fn add_entry_names(names: &mut Vec<u32>, entries: &[Entry]) -> Result<(), AllocE
     Ok(())
 }
 
-/// Adds the variables of PDOs, in order. `AllocError` if a growth is refused.
+/// Appends the variables of PDOs, in order. `AllocError` if an allocation fails.
 fn add_pdo_names(names: &mut Vec<u32>, pdos: &[Pdo]) -> Result<(), AllocError>
     ensures { OnOk result (names.new.items ≡ names.old.items ++ pdo_names pdos.now) }
 {
@@ -75,7 +75,7 @@ fn add_pdo_names(names: &mut Vec<u32>, pdos: &[Pdo]) -> Result<(), AllocError>
     Ok(())
 }
 
-/// Adds the variables that areas offer, assigned or not, in order. `AllocError` if a growth is refused.
+/// Appends the variables that areas offer, assigned or not, in order. `AllocError` if an allocation fails.
 fn add_area_names(names: &mut Vec<u32>, areas: &[Area]) -> Result<(), AllocError>
     ensures { OnOk result (names.new.items ≡ names.old.items ++ area_names areas.now) }
 {
@@ -85,8 +85,7 @@ fn add_area_names(names: &mut Vec<u32>, areas: &[Area]) -> Result<(), AllocError
     Ok(())
 }
 
-/// Adds the variables that the areas of slaves offer, assigned or not, in order. `AllocError` where a growth was
-/// refused.
+/// Appends the variables that the areas of slaves offer, assigned or not, in order. `AllocError` if an allocation fails.
 pub fn add_slave_names(names: &mut Vec<u32>, slaves: &[Slave]) -> Result<(), AllocError>
     ensures { OnOk result (names.new.items ≡ names.old.items ++ slave_names slaves.now) }
 {
@@ -96,7 +95,7 @@ pub fn add_slave_names(names: &mut Vec<u32>, slaves: &[Slave]) -> Result<(), All
     Ok(())
 }
 
-/// Whether a variable is in two entries.
+/// Returns whether a variable is in two entries.
 pub fn repeats_variable(alloc: Global, groups: &[Group]) -> Result<bool, AllocError>
     ensures { IfOk result (λ found. found ≡ has_repeated_variable groups.now) }
 {

@@ -1,4 +1,4 @@
-//! Whether a record's values lie in their ranges.
+//! Ranges of a record's values.
 ghost use Rattle.std.specs.Prelude.{◌≡◌, length, nat_lt};
 ghost use Rattle.hc_records.specs.Project.{has_outside, is_misplaced, slaves_of};
 
@@ -9,7 +9,7 @@ use crate::limits::{
 };
 use crate::records::{Area, Entry, Group, Pdo, Slave};
 
-/// An entry of no bits, or of more than a value holds.
+/// An entry without bits, or with more than a value holds.
 struct OutsideEntry;
 
 impl Condition<Entry> for OutsideEntry {
@@ -82,8 +82,8 @@ impl Condition<Group> for Bare {
     }
 }
 
-/// Whether the first group isn't the mandatory one, with alias 0, or a later group lacks an alias or a slave. It also holds for
-/// no groups.
+/// Returns whether the first group is not the mandatory one, with alias 0, or a later group lacks an alias or a slave. It is
+/// true for no groups.
 fn are_misplaced(groups: &[Group]) -> bool
     ensures { result ≡ is_misplaced groups.now }
 {
@@ -93,7 +93,7 @@ fn are_misplaced(groups: &[Group]) -> bool
     }
 }
 
-/// Whether there are more slaves than a project declares. It stops counting there.
+/// Returns whether there are more slaves than a project declares. It stops counting there.
 fn has_many_slaves(groups: &[Group]) -> bool
     ensures { result ≡ nat_lt MOST_SLAVES (length (slaves_of groups.now)) }
 {
@@ -108,8 +108,8 @@ fn has_many_slaves(groups: &[Group]) -> bool
     false
 }
 
-/// Whether a number, a list's length or the memory that an area may take is outside its range, or
-/// the groups don't begin with the mandatory one alone.
+/// Returns whether a number, a list's length or the memory that an area may take is outside its range, or the groups do not
+/// begin with the mandatory one alone.
 pub fn is_outside(groups: &[Group]) -> bool
     ensures { result ≡ has_outside groups.now }
 {

@@ -1,5 +1,4 @@
-//! Scans of a project's records: whether one of them meets a condition, whether two of them are
-//! related.
+//! Scans of a project's records for one that meets a condition, or for two that are related.
 ghost use Rattle.std.specs.Prelude.{◌≡◌, Bool};
 ghost use Rattle.std.specs.List.{list_any};
 ghost use Rattle.hc_records.specs.Lists.{some_pair};
@@ -9,7 +8,7 @@ use crate::records::{Area, Group, Slave};
 
 /// A condition on a record.
 pub trait Condition<T> {
-    /// What is tested.
+    /// The tested record.
     ghost condition: { T → Bool };
 
     /// Whether an item meets the condition.
@@ -19,7 +18,7 @@ pub trait Condition<T> {
 
 /// A relation of an earlier record to a later one.
 pub trait Relation<T> {
-    /// What is tested.
+    /// The tested record.
     ghost relation: { T → T → Bool };
 
     /// Whether an earlier item is related to a later one.
@@ -27,14 +26,14 @@ pub trait Relation<T> {
         ensures { result ≡ relation earlier.now later.now };
 }
 
-/// Whether one of the items meets a condition.
+/// Returns whether one of the items meets a condition.
 pub fn some<T, C: Condition<T>>(items: &[T]) -> bool
     ensures { result ≡ list_any C.condition items.now }
 {
     items.iter().any(|item| C::holds(item))
 }
 
-/// Whether a slave of the project meets a condition.
+/// Returns whether a slave of the project meets a condition.
 pub fn some_slave<C: Condition<Slave>>(groups: &[Group]) -> bool
     ensures { result ≡ some_slave C.condition groups.now }
 {
@@ -43,7 +42,7 @@ pub fn some_slave<C: Condition<Slave>>(groups: &[Group]) -> bool
         .any(|group| some::<Slave, C>(group.slaves.as_slice()))
 }
 
-/// Whether an area of one of the slaves meets a condition.
+/// Returns whether an area of one of the slaves meets a condition.
 fn some_area_of<C: Condition<Area>>(slaves: &[Slave]) -> bool
     ensures { result ≡ list_any (λ slave. list_any C.condition slave.areas) slaves.now }
 {
@@ -52,7 +51,7 @@ fn some_area_of<C: Condition<Area>>(slaves: &[Slave]) -> bool
         .any(|slave| some::<Area, C>(slave.areas.as_slice()))
 }
 
-/// Whether an area of the project meets a condition.
+/// Returns whether an area of the project meets a condition.
 pub fn some_area<C: Condition<Area>>(groups: &[Group]) -> bool
     ensures { result ≡ some_area C.condition groups.now }
 {
@@ -61,14 +60,14 @@ pub fn some_area<C: Condition<Area>>(groups: &[Group]) -> bool
         .any(|group| some_area_of::<C>(group.slaves.as_slice()))
 }
 
-/// Whether an item is related to one of the later ones.
+/// Returns whether an item is related to one of the later ones.
 fn relates_to_any<T, R: Relation<T>>(item: &T, later: &[T]) -> bool
     ensures { result ≡ list_any (R.relation item.now) later.now }
 {
     later.iter().any(|other| R::holds(item, other))
 }
 
-/// Whether two of the items are related, an earlier one to a later one.
+/// Returns whether two of the items are related, an earlier one to a later one.
 pub fn some_pair<T, R: Relation<T>>(items: &[T]) -> bool
     ensures { result ≡ some_pair R.relation items.now }
 {

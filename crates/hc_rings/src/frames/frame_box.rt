@@ -26,7 +26,7 @@ impl Model for FrameBox {
 }
 
 impl FrameBox {
-    /// A copy of the bytes, at most 1,514. `AllocError` where their room was refused.
+    /// Returns a frame with a copy of the bytes, at most 1,514. `AllocError` if an allocation fails.
     pub fn of(alloc: Global, bytes: &[u8]) -> Result<FrameBox, AllocError>
         requires { length bytes.now ≤ LARGEST_FRAME }
         ensures { IfOk result (λ f. f ≡ bytes.now) }
@@ -35,7 +35,7 @@ impl FrameBox {
         Ok(FrameBox { bytes })
     }
 
-    /// The frame's bytes, at most 1,514.
+    /// Returns the frame's bytes, at most 1,514.
     pub fn bytes(&self) -> &[u8]
         ensures bytes { result.now ≡ self.now }
         ensures most { length result.now ≤ LARGEST_FRAME }
@@ -43,7 +43,7 @@ impl FrameBox {
         self.bytes.as_slice()
     }
 
-    /// Lends the frame's bytes for writing. Their number stays. Takes no memory.
+    /// Lends the frame's bytes for writing. Their number stays. It allocates nothing.
     pub fn bytes_mut(&mut self) -> &mut [u8]
         ensures* written { sem 𝓛 (LendsFrame self.entry result) }
         ensures bytes { result.now ≡ self.old }

@@ -1,4 +1,4 @@
-//! What the taking end of a ring of frames does.
+//! The taking end of a ring of frames.
 ghost use Rattle.std.specs.Prelude.{◌≡◌, [], ◌∷◌, ◌++◌, length, IfSome, IfNone};
 ghost use mathlib.Core.List.{IsPrefix};
 ghost use Rattle.hc_rings.specs.Frames.{frames_sent, frames_taken, frames_left, AreFrameEnds, SameFrameSender, SameFrameReceiver};
@@ -6,22 +6,23 @@ ghost use Rattle.hc_rings.specs.Frames.{frames_sent, frames_taken, frames_left, 
 use super::{FrameBox, FrameReceiver, FrameSender};
 
 impl FrameReceiver {
-    /// The oldest frame that was not taken yet, or `None` where none is found; the sender may send at any time.
+    /// Takes the oldest frame, or returns `None` if none is found. The sender may send at any time.
     pub fn take(&mut self) -> Option<FrameBox>
         ensures ring { SameFrameReceiver self.old self.new }
 
-        // The frame that is given is the first that was known to be left; more may be known afterwards.
+        // The taken frame is the first that was known to be left; more may be known afterwards.
         ensures some { IfSome result (λ f. frames_taken self.new ≡ frames_taken self.old ++ f ∷ []) }
         ensures first { IfSome result (λ f. IsPrefix (frames_left self.old) (f ∷ frames_left self.new)) }
 
-        // A frame that is known to be left is given.
+        // A frame that is known to be left is taken.
         ensures none { IfNone result (frames_taken self.new ≡ frames_taken self.old) }
         ensures none_left { IfNone result ((frames_left self.old ≡ []) × (frames_left self.new ≡ [])) }
     {
         self.ring.pop().ok()
     }
 
-    /// How many frames are left, for a thread that holds both ends: what was taken and what is left is all that was sent.
+    /// Returns how many frames are left, for a thread that holds both ends: the taken frames and those that are left are all
+    /// that were sent.
     pub fn beside(&mut self, sender: &mut FrameSender) -> u32
         requires { AreFrameEnds sender.old self.old }
         ensures ring { SameFrameReceiver self.old self.new × SameFrameSender sender.old sender.new }

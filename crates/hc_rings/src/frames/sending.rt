@@ -1,4 +1,4 @@
-//! What the sending end of a ring of frames does.
+//! The sending end of a ring of frames.
 ghost use Rattle.std.specs.Prelude.{◌≡◌, ◌≤◌, [], ◌∷◌, ◌++◌, length, OnOk, OnErr, IfErr};
 ghost use Rattle.hc_rings.specs.Frames.{frames_sent, frame_room, SameFrameSender};
 
@@ -6,8 +6,8 @@ use super::{FrameBox, FrameSender};
 use rtrb::PushError;
 
 impl FrameSender {
-    /// Sends a frame, or hands it back where no place is found. That is only where as many frames were sent before as the
-    /// ring has room for.
+    /// Sends a frame, or returns it if no place is found. That occurs only after as many frames were sent as the ring's
+    /// capacity.
     pub fn send(&mut self, frame: FrameBox) -> Result<(), FrameBox>
         ensures ring { SameFrameSender self.old self.new }
         ensures ok { OnOk result (frames_sent self.new ≡ frames_sent self.old ++ frame ∷ []) }

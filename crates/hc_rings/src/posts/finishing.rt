@@ -1,4 +1,4 @@
-//! The end of a sender, shown to the receiver: with it the receiver says what is left of all that was posted.
+//! The end of a sender, shown to the receiver, who then knows all that was posted and what is left of it.
 ghost use Rattle.std.specs.Prelude.{◌≡◌, true};
 ghost use Rattle.rtrb.specs.Ring.{all_sent};
 ghost use Rattle.hc_rings.specs.Items.{posts_of, items_of};
@@ -8,7 +8,7 @@ use crate::item::{EndComesLast, Item};
 use rtrb::Finished;
 use std::alloc::Global;
 
-/// Shows all that a sender posted, once it posts no more. It may go to the receiver's thread, and owns no memory.
+/// All that a sender posted, after it ended. It may go to the receiver's thread, and owns no memory.
 #[derive(Drop)]
 pub struct PostsEnd {
     pub(crate) items: Finished<Item, Global, EndComesLast>,
@@ -21,8 +21,8 @@ impl PostSender {
     ghost use Rattle.hc_rings.specs.Finished.{all_posted, IsEndOf};
     ghost use Rattle.hc_rings.specs.declared.posts.PostReceiver.{PostReceiver as Receiver};
 
-    /// Ends the sender, and shows what it posted. A buffer that it holds is dropped, and is no post. `None` where the receiver
-    /// is gone.
+    /// Ends the sender, and returns all that it posted. A buffer that it holds is dropped, and is no post. `None` if the
+    /// receiver is gone.
     pub fn finish(self) -> Option<PostsEnd>
         ensures end { IfSome result (λ end. (receiver : Receiver) → ArePostEnds self receiver → IsEndOf end receiver) }
         ensures posted { IfSome result (λ end. all_posted end ≡ posted self) }
@@ -42,7 +42,8 @@ impl PostReceiver {
     ghost use Rattle.hc_rings.specs.Ring.{taken, left, given_back, SameReceiver};
     ghost use Rattle.hc_rings.specs.Finished.{all_posted, IsEndOf};
 
-    /// How many posts are left, once the sender has finished: what was taken and what is left is all that was posted.
+    /// Returns how many posts are left, after the sender has finished: the taken posts and those that are left are all that
+    /// were posted.
     pub fn finish_after(&mut self, end: &mut PostsEnd) -> u32
         requires { IsEndOf end.old self.old }
         ensures ring { SameReceiver self.old self.new }

@@ -1,4 +1,4 @@
-//! The buffer that a task seat holds for its next post: its bytes are lent for writing, and then it is posted.
+//! The buffer that a task's seat holds for its next post: its bytes are lent for writing, and then it is posted.
 ghost use Rattle.std.specs.Prelude.{◌≡◌, ◌<◌, ◌≤◌, ◌↔◌, [], ◌∷◌, ◌++◌, length, None, Some, IsOk, IsSome, IfSome, OnOk, OnErr, IsErrOf, IfOk, replicate, true, false};
 ghost use Rattle.std.specs.Borrow.{sem};
 ghost use Rattle.hc_rings.specs.Faults.{post_fault_number};
@@ -10,19 +10,19 @@ use super::{NoSpare, POSTS_WAITING, PostSender, SPARE_BUFFERS};
 use crate::post_buffer::{LARGEST_IMAGE, PostBuffer};
 use thiserror::Error;
 
-/// Why a post isn't made. A fault's number never changes.
+/// The reason for which a post is not made. A fault's number never changes.
 #[derive(Clone, Copy, Debug, PartialEq, Eq, Error)]
 pub enum PostFault {
     /// No buffer is held.
     #[error("no buffer is held")]
     NoBuffer,
-    /// The ring had no place for the post. The buffer stays held, as it was left.
+    /// The ring had no place for the post. The buffer stays held, unchanged.
     #[error("no place is free for the post")]
     Full,
 }
 
 impl PostFault {
-    /// The fault's number: 1 or 2.
+    /// Returns the fault's number: 1 or 2.
     pub fn number(self) -> u8
         ensures { result ≡ post_fault_number self }
     {
@@ -34,9 +34,9 @@ impl PostFault {
 }
 
 impl PostSender {
-    /// Has a buffer of `size` bytes (at most 23,776) that are all 0 held for the next post, for this epoch: the buffer that is
-    /// held already, or else a spare. `NoSpare` comes only where none is held and four buffers were handed out before; as
-    /// long as `buffer` is unused these are four posts, and all but four were taken, as far as the sender has seen.
+    /// Holds a buffer of `size` bytes (at most 23,776), all 0, for the next post, for this epoch: the buffer that is held
+    /// already, or else a spare. Fails with `NoSpare` only if none is held and four buffers were handed out before. If `buffer`
+    /// was never called, these are four posts, and all but four were taken, as far as the sender has seen.
     pub fn hold(&mut self, epoch: u32, size: usize) -> Result<(), NoSpare>
         requires { size ≤ LARGEST_IMAGE }
         ensures ring { SameSender self.old self.new }
@@ -58,7 +58,7 @@ impl PostSender {
         Ok(())
     }
 
-    /// Lends the bytes of the buffer that is held, for writing. Its epoch stays, and so does the number of bytes.
+    /// Lends the bytes of the held buffer for writing. Its epoch and the number of bytes stay.
     pub fn held_mut(&mut self) -> &mut [u8]
         requires { IsSome (held self.old) }
         ensures* lent { sem 𝓛 (LendsHeld self.entry result) }
@@ -67,9 +67,9 @@ impl PostSender {
         lend(&mut self.held)
     }
 
-    /// Lends the `size` bytes (at most 23,776), all 0, of the buffer that is then held for the next post, for this epoch: the
-    /// buffer that is held already, or else a spare. `NoSpare` comes only where none is held and four buffers were handed out
-    /// before; as long as `buffer` is unused these are four posts. It is `hold` and `held_mut` in one call.
+    /// Lends `size` bytes (at most 23,776), all 0, of the buffer that is then held for the next post, for this epoch: the
+    /// buffer that is held already, or else a spare. It is `hold` and `held_mut` in one call. Fails with `NoSpare` only if none
+    /// is held and four buffers were handed out before. If `buffer` was never called, these are four posts.
     pub fn outputs(&mut self, epoch: u32, size: usize) -> Result<&mut [u8], NoSpare>
         requires { size ≤ LARGEST_IMAGE }
         ensures* lent { sem 𝓛 (LendsOutputs self.entry epoch size result) }
@@ -83,7 +83,7 @@ impl PostSender {
         Err(NoSpare)
     }
 
-    /// Has such a buffer held, and answers whether one is.
+    /// Holds a buffer of zeros for the next post, and returns whether one is held.
     fn holds_zeros(&mut self, epoch: u32, size: usize) -> bool
         requires { size ≤ LARGEST_IMAGE }
         ensures held { result ≡ true → HoldsPost self.old self.new (blank_post epoch size) × IsSome (held self.new) }
@@ -93,8 +93,8 @@ impl PostSender {
         self.hold(epoch, size).is_ok()
     }
 
-    /// Posts the buffer that is held, with its epoch and with its bytes as they were left. `NoBuffer` where none is held. `Full`
-    /// only where four posts were made before, and all but four were taken, as far as the sender has seen.
+    /// Posts the held buffer, with its epoch and its bytes as they were left. Fails with `NoBuffer` if none is held, and with
+    /// `Full` only if four posts were made before, and all but four were taken, as far as the sender has seen.
     pub fn post_held(&mut self) -> Result<(), PostFault>
         ensures ring { SameSender self.old self.new }
         ensures handed_out { handed_out self.new ≡ handed_out self.old }

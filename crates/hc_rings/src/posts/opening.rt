@@ -1,4 +1,4 @@
-//! Makes a ring of posts with its spare buffers.
+//! Opening of a ring of posts with its spare buffers.
 ghost use Rattle.std.specs.Prelude.{◌≡◌, [], length, IfOk, None};
 ghost use Rattle.rtrb.specs.Ring.{sent, received, known_items, producer_capacity, IsPair};
 ghost use Rattle.hc_rings.specs.Ring.{posted, handed_out, held, taken, left, given_back, ArePostEnds};
@@ -13,8 +13,8 @@ use rtrb::{Consumer, Producer, RingBuffer};
 use std::alloc::{AllocError, Global};
 use std::collections::VecDeque;
 
-/// Makes the two ends of a ring of posts, with its four buffers among the spares. Takes all the memory that the ring needs:
-/// after it no call of the two ends takes any. `AllocError` where a growth was refused, or a ring that `rtrb` would not make.
+/// Returns the two ends of a ring of posts, with its four buffers among the spares. It allocates all the memory that the ring
+/// needs; no later call of the two ends allocates. `AllocError` if an allocation fails, or if `rtrb` makes no such ring.
 pub fn post_ring(alloc: Global) -> Result<(PostSender, PostReceiver), AllocError>
     ensures ends { IfOk result (λ r. ArePostEnds r.0 r.1) }
     ensures sender { IfOk result (λ r. (posted r.0 ≡ []) × (handed_out r.0 ≡ 0) × (held r.0 ≡ None)) }
@@ -43,7 +43,7 @@ pub fn post_ring(alloc: Global) -> Result<(PostSender, PostReceiver), AllocError
     Ok((sender, receiver))
 }
 
-/// A ring that is full of spare buffers, and its consumer knows them all.
+/// Returns a ring that is full of spare buffers, all of which its consumer knows.
 fn spares(alloc: Global) -> Result<(Producer<PostBuffer>, Consumer<PostBuffer>), AllocError>
     ensures pair { IfOk result (λ r. IsPair r.0 r.1) }
     ensures four { IfOk result (λ r. producer_capacity r.0 ≡ SPARE_BUFFERS) }

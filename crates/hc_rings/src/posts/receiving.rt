@@ -1,4 +1,4 @@
-//! What the conductor does with its end of a ring of posts.
+//! The conductor's end of a ring of posts.
 ghost use Rattle.std.specs.Prelude.{◌≡◌, ◌+◌, ◌<◌, ◌≤◌, ◌⊎◌, [], ◌∷◌, ◌++◌, List, length, IsSome, IfSome, IfNone};
 ghost use mathlib.Core.List.{IsPrefix};
 ghost use Rattle.hc_rings.specs.Post.{Post};
@@ -8,15 +8,15 @@ use super::{POSTS_WAITING, PostReceiver, PostSender, SPARE_BUFFERS};
 use crate::post_buffer::PostBuffer;
 
 impl PostReceiver {
-    /// The oldest post that was not taken yet, or `None` where none is found; the sender may post at any time.
+    /// Takes the oldest post, or returns `None` if none is found. The sender may post at any time.
     pub fn take(&mut self) -> Option<PostBuffer>
         ensures ring { SameReceiver self.old self.new }
 
-        // The post that is given is the first that was known to be left; more may be known afterwards.
+        // The taken post is the first that was known to be left; more may be known afterwards.
         ensures some { IfSome result (λ b. taken self.new ≡ taken self.old ++ b ∷ []) }
         ensures first { IfSome result (λ b. IsPrefix (left self.old) (b ∷ left self.new)) }
 
-        // A post that is known to be left is given.
+        // A post that is known to be left is taken.
         ensures none { IfNone result (taken self.new ≡ taken self.old) }
         ensures none_left { IfNone result ((left self.old ≡ []) × (left self.new ≡ [])) }
 
@@ -30,13 +30,13 @@ impl PostReceiver {
         self.posts.next()
     }
 
-    /// Puts a buffer among the spares, for the sender to fill again. It is dropped where no place is found.
+    /// Returns a buffer to the spares, for the sender to fill again. It is dropped if no place is found.
     pub fn give_back(&mut self, buffer: PostBuffer)
         ensures ring { SameReceiver self.old self.new }
         ensures taken { (taken self.new ≡ taken self.old) × (left self.new ≡ left self.old) }
         ensures end { (posts : List Post) → EndCameAfter self.old posts → EndCameAfter self.new posts }
 
-        // It is dropped only where no place is known, also after a look.
+        // It is dropped only if no place is known, even after a look.
         ensures given_back { (given_back self.new ≡ given_back self.old ++ buffer ∷ [])
             ⊎ ((given_back self.new ≡ given_back self.old) × (spare_places self.new ≡ 0)) }
         ensures unchanged { 0 < spare_places self.old → given_back self.new ≡ given_back self.old ++ buffer ∷ [] }
@@ -45,8 +45,8 @@ impl PostReceiver {
         let _ = self.spares.push(buffer);
     }
 
-    /// How many posts are left, once the sender is gone; `None` while it may still post. After `Some(n)` the next `n` calls of
-    /// `take` give a post each, and then there is none.
+    /// Returns how many posts are left, after the sender is gone; `None` while it may still post. After `Some(n)` the next `n`
+    /// calls of `take` return a post each, and then there is none.
     pub fn finish(&mut self) -> Option<u32>
         ensures ring { SameReceiver self.old self.new }
         ensures taken { (taken self.new ≡ taken self.old) × IsPrefix (left self.old) (left self.new) }
@@ -63,9 +63,9 @@ impl PostReceiver {
         }
     }
 
-    /// How many posts are left, for a thread that holds both ends: what was taken and what is left is all that was posted.
-    /// Each end then knows what the other did: the sender of a place for each post that isn't left, and of each spare buffer
-    /// that isn't handed out; the receiver of a place for each buffer that is.
+    /// Returns how many posts are left, for a thread that holds both ends: the taken posts and those that are left are all that
+    /// were posted. Each end then knows what the other did: the sender a place for each post that is not left, and each spare
+    /// buffer that is not handed out; the receiver a place for each buffer that is.
     pub fn beside(&mut self, sender: &mut PostSender) -> u32
         requires { ArePostEnds sender.old self.old }
         ensures ring { SameReceiver self.old self.new × SameSender sender.old sender.new }
@@ -85,7 +85,7 @@ impl PostReceiver {
         (self.rest.len() + waiting) as u32
     }
 
-    /// Once the sender is gone, moves what is in the ring to `rest`, up to the end: at most four posts.
+    /// Moves the posts in the ring to `rest`, up to the end, after the sender is gone: at most four.
     fn look_for_end(&mut self)
         ensures ring { SameReceiver self.old self.new }
         ensures taken { (taken self.new ≡ taken self.old) × IsPrefix (left self.old) (left self.new) }

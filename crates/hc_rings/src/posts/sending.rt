@@ -1,4 +1,4 @@
-//! What a task seat does with its end of a ring of posts.
+//! A task seat's end of a ring of posts.
 ghost use Rattle.std.specs.Prelude.{◌≡◌, ◌+◌, ◌<◌, ◌≤◌, [], ◌∷◌, ◌++◌, length, IsOk, OnOk, OnErr, IfErr};
 ghost use Rattle.hc_rings.specs.Ring.{posted, handed_out, held, known_places, known_spares, SameSender};
 
@@ -6,19 +6,19 @@ use super::{POSTS_WAITING, PostSender, SPARE_BUFFERS};
 use crate::post_buffer::PostBuffer;
 use thiserror::Error;
 
-/// Each buffer is handed out, and none was found that had come back.
+/// Each buffer is handed out, and none was found to have returned.
 #[derive(Clone, Copy, Debug, PartialEq, Eq, Error)]
 #[error("no buffer is free")]
 pub struct NoSpare;
 
-/// The ring had no place for the post, which comes back.
+/// The ring had no place for the post, which is returned.
 #[derive(Debug, Drop, Error)]
 #[error("no place is free for the post")]
 pub struct Full(pub PostBuffer);
 
 impl PostSender {
-    /// A spare buffer, to be filled and posted. `NoSpare` only where four buffers were handed out before. What is in it may
-    /// be of an earlier post.
+    /// Returns a spare buffer, to be filled and posted. It may have the bytes of an earlier post. Fails with `NoSpare` only if
+    /// four buffers were handed out before.
     pub fn buffer(&mut self) -> Result<PostBuffer, NoSpare>
         ensures ring { SameSender self.old self.new }
         ensures posted { (posted self.new ≡ posted self.old) × (held self.new ≡ held self.old) }
@@ -32,7 +32,8 @@ impl PostSender {
         self.spares.next().ok_or(NoSpare)
     }
 
-    /// Posts the buffer with its epoch and bytes. `Full` only where four posts were made before; it hands the buffer back.
+    /// Posts the buffer with its epoch and bytes. Fails with `Full`, which returns the buffer, only if four posts were made
+    /// before.
     pub fn post(&mut self, buffer: PostBuffer) -> Result<(), Full>
         ensures ring { SameSender self.old self.new }
         ensures ok { OnOk result (posted self.new ≡ posted self.old ++ buffer ∷ []) }
@@ -47,7 +48,7 @@ impl PostSender {
         }
     }
 
-    /// Whether the receiver is gone: then nobody takes what is posted. No contract speaks of the answer.
+    /// Returns whether the receiver is gone: then nobody takes the posts. No contract speaks of the result.
     pub fn is_abandoned(&mut self) -> bool
         ensures ring { SameSender self.old self.new }
         ensures posted { (posted self.new ≡ posted self.old) × (held self.new ≡ held self.old) × (handed_out self.new ≡ handed_out self.old) }

@@ -1,14 +1,14 @@
 -- An arrival that is current ends what is awaited with its serial, and nothing else.
 use Rattle.std.proofs.Common.{◌≡◌, ◌≢◌, ℕ, ◌==◌, ◌<◌, Bool, true, false, cond, not, List, [], ◌∷◌, filter, refl, sym, ap, ◌∙◌, subst, Option, Some, None}
-use Rattle.std.specs.Prelude.{All, find, option_and_then, option_map}
+use Rattle.std.specs.Prelude.{All, AllPairs, find, option_and_then, option_map}
 use Rattle.std.specs.Option.{option_or}
 use Rattle.std.proofs.lemmas.Bool.{eqb-true}
-use Rattle.std.proofs.lemmas.List.Elements.{All-filter, All-weaker}
+use Rattle.std.proofs.lemmas.List.Elements.{All-filter, All-weaker, filter-append}
 use Rattle.std.proofs.lemmas.List.Kept.{AllPairs-filter}
 use Rattle.hc_records.specs.Line.{Member}
 use Rattle.hc_records.proofs.lemmas.Choices.{by_bool}
 use Rattle.hc_events.specs.Arrivals.{Arrival}
-use Rattle.hc_events.specs.Accepted.{IsInLine}
+use Rattle.hc_events.specs.Accepted.{IsInLine, carries_first}
 use Rattle.hc_events.specs.AnswerLaws.{IsAwaited}
 use Rattle.hc_events.specs.Entries.{History, Came}
 use Rattle.hc_events.specs.Points.{line_of, next_serial}
@@ -16,7 +16,7 @@ use Rattle.hc_events.specs.Answering.{Sending, has_heads, is_stale_to, sending_o
 use Rattle.hc_events.specs.Awaited.{awaited}
 use Rattle.hc_events.proofs.lemmas.Answers.{awaited-answered}
 use Rattle.hc_events.proofs.lemmas.Awaited.{awaited_came, same_is, unless_fits, unless-other}
-use Rattle.hc_sendings.specs.Waiting.{AwaitedFrame, AwaitedWrite, Waiting, ended}
+use Rattle.hc_sendings.specs.Waiting.{AwaitedFrame, AwaitedWrite, Waiting, all_writes, ended}
 use Rattle.hc_sendings.specs.Judging.{due_with, found_frame, found_write, frame_due, write_due}
 use Rattle.hc_sendings.specs.History.{KeepsAwaited, due_by, dues_of}
 
@@ -59,9 +59,13 @@ dues_ended : (line : List Member) (over : Bool) (write : Option AwaitedWrite) (f
 dues_ended line true write frame = refl
 dues_ended line false write frame = refl
 
+all_ended : (n : ℕ) (waiting : Waiting) → all_writes (ended n waiting) ≡ filter (λ (write : AwaitedWrite). not (write.serial == n)) (all_writes waiting)
+all_ended n waiting = sym (filter-append (λ (write : AwaitedWrite). not (write.serial == n)) waiting.further waiting.writes)
+
 due_ended : (line : List Member) (n : ℕ) (waiting : Waiting) (serial : ℕ) → due_with line (ended n waiting) serial ≡ cond (serial == n) None (due_with line waiting serial)
 due_ended line n waiting serial =
-    ap (λ write. option_or (option_map write_due write) (option_map (frame_due line) (found_frame serial (ended n waiting)))) (found_ended (λ (write : AwaitedWrite). write.serial) n serial waiting.writes)
+    ap (λ write. option_or (option_map write_due write) (option_map (frame_due line) (found_frame serial (ended n waiting))))
+    (ap (find (λ (write : AwaitedWrite). write.serial == serial)) (all_ended n waiting) ∙ found_ended (λ (write : AwaitedWrite). write.serial) n serial (all_writes waiting))
     ∙ ap (λ frame. option_or (option_map write_due (cond (serial == n) None (found_write serial waiting))) (option_map (frame_due line) frame)) (found_ended (λ (frame : AwaitedFrame). frame.serial) n serial waiting.frames)
     ∙ dues_ended line (serial == n) (found_write serial waiting) (found_frame serial waiting)
 
@@ -89,15 +93,20 @@ waits-ended history waiting arrival waits updates =
     let for = (awaited-answered history arrival).updates.0 updates in
     let keep : AwaitedFrame → Bool = λ frame. not (frame.serial == arrival.serial) in
     let stays : AwaitedWrite → Bool = λ write. not (write.serial == arrival.serial) in
+    let differ : AwaitedWrite → AwaitedWrite → Type 0 = λ a b. a.serial ≢ b.serial in
+    let back : (P : List AwaitedWrite → Type 0) → P (filter stays (all_writes waiting)) → P (all_writes (ended arrival.serial waiting)) = λ P holds. subst P (sym (all_ended arrival.serial waiting)) holds in
     record {
       due = λ serial. due_ended (line_of history) arrival.serial waiting serial ∙ ap (cond (serial == arrival.serial) None) (waits.due serial) ∙ sym (due_answered history arrival serial for);
       ascend = AllPairs-filter (λ (a b : AwaitedFrame). a.serial < b.serial) keep waiting.frames waits.ascend;
       below = All-filter keep (λ (frame : AwaitedFrame). frame.serial < next_serial history) waiting.frames waits.below;
       is_placed = All-filter keep (λ (frame : AwaitedFrame). All (λ carried. IsInLine (line_of history) carried.datagram) frame.datagrams) waiting.frames waits.is_placed;
       in_order = AllPairs-filter (λ (a b : AwaitedWrite). a.serial < b.serial) stays waiting.writes waits.in_order;
-      given = All-filter stays (λ (write : AwaitedWrite). write.serial < next_serial history) waiting.writes waits.given;
-      apart = All-filter stays (λ (write : AwaitedWrite). All (λ (frame : AwaitedFrame). frame.serial ≢ write.serial) (filter keep waiting.frames)) waiting.writes
+      distinct = back (AllPairs differ) (AllPairs-filter differ stays (all_writes waiting) waits.distinct);
+      given = back (All (λ (write : AwaitedWrite). write.serial < next_serial history)) (All-filter stays (λ (write : AwaitedWrite). write.serial < next_serial history) (all_writes waiting) waits.given);
+      apart = back (All (λ (write : AwaitedWrite). All (λ (frame : AwaitedFrame). frame.serial ≢ write.serial) (filter keep waiting.frames)))
+          (All-filter stays (λ (write : AwaitedWrite). All (λ (frame : AwaitedFrame). frame.serial ≢ write.serial) (filter keep waiting.frames)) (all_writes waiting)
           (All-weaker (λ (write : AwaitedWrite). All (λ (frame : AwaitedFrame). frame.serial ≢ write.serial) waiting.frames) (λ (write : AwaitedWrite). All (λ (frame : AwaitedFrame). frame.serial ≢ write.serial) (filter keep waiting.frames))
-          (λ write all. All-filter keep (λ (frame : AwaitedFrame). frame.serial ≢ write.serial) waiting.frames all) waiting.writes waits.apart);
+          (λ write all. All-filter keep (λ (frame : AwaitedFrame). frame.serial ≢ write.serial) waiting.frames all) (all_writes waiting) waits.apart));
+      first = All-filter stays (λ (write : AwaitedWrite). carries_first history write.serial) waiting.writes waits.first;
       forgotten = waits.forgotten;
     }

@@ -16,7 +16,7 @@ use Rattle.hc_events.specs.Awaited.{all_outdated, awaited, is_write_sending}
 use Rattle.hc_events.proofs.lemmas.Awaited.{awaited-new_answer, frame-untouched, data-untouched, no-block_first, not_both, unless_again}
 use Rattle.hc_sendings.specs.declared.write_frames.PlacedBlock.{PlacedBlock}
 use Rattle.hc_sendings.specs.declared.writes.AwaitedBlock.{AwaitedBlock}
-use Rattle.hc_sendings.specs.Waiting.{AwaitedFrame, AwaitedWrite, AwaitedDatagram, Waiting, awaited_block, block_forgotten, is_awaited, is_same, written_again}
+use Rattle.hc_sendings.specs.Waiting.{AwaitedFrame, AwaitedWrite, AwaitedDatagram, Waiting, all_writes, awaited_block, block_forgotten, is_awaited, is_same, written_again}
 use Rattle.hc_sendings.specs.WriteFrames.{block_of}
 use Rattle.hc_sendings.specs.Judging.{Due, block_due, due_of, found_frame, found_write, frame_due, write_due, written_head}
 use Rattle.hc_sendings.specs.History.{KeepsAwaited, due_in, dues_of}
@@ -254,13 +254,13 @@ none_with serial (frame ∷ frames) all =
 
 pub no-frame : (history : History) (stored : Waiting) (serial : ℕ) (write : AwaitedWrite) → KeepsAwaited history stored → found_write serial stored ≡ Some write → found_frame serial stored ≡ None
 no-frame history stored serial write waits e =
-    let one = holds_found (λ (w : AwaitedWrite). All (λ (frame : AwaitedFrame). frame.serial ≢ w.serial) stored.frames) (λ (w : AwaitedWrite). w.serial == serial) stored.writes write waits.apart e in
+    let one = holds_found (λ (w : AwaitedWrite). All (λ (frame : AwaitedFrame). frame.serial ≢ w.serial) stored.frames) (λ (w : AwaitedWrite). w.serial == serial) (all_writes stored) write waits.apart e in
     none_with serial stored.frames (subst (λ (n : ℕ). All (λ (frame : AwaitedFrame). frame.serial ≢ n) stored.frames) (eqb-true write.serial serial one.1) one.0)
 
 -- its serial was given
 pub written-below : (history : History) (stored : Waiting) (serial : ℕ) (write : AwaitedWrite) → KeepsAwaited history stored → found_write serial stored ≡ Some write → serial < next_serial history
 written-below history stored serial write waits e =
-    let one = holds_found (λ (w : AwaitedWrite). w.serial < next_serial history) (λ (w : AwaitedWrite). w.serial == serial) stored.writes write waits.given e in
+    let one = holds_found (λ (w : AwaitedWrite). w.serial < next_serial history) (λ (w : AwaitedWrite). w.serial == serial) (all_writes stored) write waits.given e in
     subst (λ n. n < next_serial history) (eqb-true write.serial serial one.1) one.0
 
 -- what isn't a write's is a frame's
@@ -269,9 +269,9 @@ no_block : (line : List Member) (datagrams : List AwaitedDatagram) → list_any 
 no_block line [] = refl
 no_block line (carried ∷ datagrams) = no_block line datagrams
 
-framed_plain : (line : List Member) (frame : Option AwaitedFrame) (sending : Sending) → option_map (frame_due line) frame ≡ Some (dues_of sending) → is_write_sending sending ≡ false
-framed_plain line None sending e = cc
-framed_plain line (Some frame) sending e =
+pub framed-plain : (line : List Member) (frame : Option AwaitedFrame) (sending : Sending) → option_map (frame_due line) frame ≡ Some (dues_of sending) → is_write_sending sending ≡ false
+framed-plain line None sending e = cc
+framed-plain line (Some frame) sending e =
     let same : frame_due line frame ≡ dues_of sending = cc in
     ap (list_any (λ (head : Head). is_block head.item)) (sym (heads-back sending.since sending.heads) ∙ ap (map (λ (due : Due). due.head)) (sym same))
     ∙ no_block line frame.datagrams
@@ -304,7 +304,7 @@ module _ (history : History) (stored : Waiting) (entry : HistoryEntry) (serial :
   no_sending : (found : Option Sending) → awaited history serial ≡ found → ((task d : ℕ) → sends (Datagram task d) entry ≡ false) → frames ≡ option_map dues_of found → frames ≡ after found
   no_sending None there none e = e
   no_sending (Some sending) there none e =
-      e ∙ sym (frame_stays history entry none serial sending there (framed_plain (line_of history) (found_frame serial stored) sending e))
+      e ∙ sym (frame_stays history entry none serial sending there (framed-plain (line_of history) (found_frame serial stored) sending e))
 
   pub frame-after : ((task d : ℕ) → sends (Datagram task d) entry ≡ false) → found_write serial stored ≡ None → frames ≡ after (awaited history serial)
   frame-after none e =

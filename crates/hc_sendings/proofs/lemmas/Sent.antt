@@ -12,7 +12,7 @@ use Rattle.hc_events.specs.Points.{line_of, next_serial}
 use Rattle.hc_events.specs.Sendings.{Frame, Named, frame_of_one, framed, framed_after, has_room, frame_joined, line_data_length}
 use Rattle.hc_events.proofs.lemmas.Once.{below_more}
 use Rattle.hc_sendings.specs.Waiting as waiting
-use Rattle.hc_sendings.specs.Waiting.{AwaitedFrame, AwaitedWrite, AwaitedDatagram, Waiting, as_sent, is_still_awaited, sent, with_again}
+use Rattle.hc_sendings.specs.Waiting.{AwaitedFrame, AwaitedWrite, AwaitedDatagram, Waiting, all_writes, as_sent, is_still_awaited, sent, with_again}
 use Rattle.hc_sendings.specs.Judging.{found_write}
 use Rattle.hc_sendings.proofs.lemmas.Resent.{due-sent, sent-frames}
 use Rattle.hc_sendings.specs.History.{KeepsAwaited}
@@ -74,8 +74,10 @@ waits-sent history stored frame number some are_placed waits =
           (All-weaker (IsPlaced (line_of history)) (λ (f : AwaitedFrame). IsPlaced (line_of history) (with_again frame.datagrams f)) (λ f all. again_is_placed (line_of history) frame.datagrams f.datagrams all) stored.frames waits.is_placed)
           (new_is_placed (line_of history) frame.datagrams are_placed));
       in_order = waits.in_order;
-      given = All-weaker (λ (write : AwaitedWrite). write.serial < next_serial history) (λ (write : AwaitedWrite). write.serial < next_serial history + 1) (λ write less. below_more write.serial (next_serial history) less) stored.writes waits.given;
-      apart = apart_all (λ write. back (All (λ (f : AwaitedFrame). f.serial ≢ write.serial))) stored.writes waits.given waits.apart;
+      distinct = waits.distinct;
+      first = waits.first;
+      given = All-weaker (λ (write : AwaitedWrite). write.serial < next_serial history) (λ (write : AwaitedWrite). write.serial < next_serial history + 1) (λ write less. below_more write.serial (next_serial history) less) (all_writes stored) waits.given;
+      apart = apart_all (λ write. back (All (λ (f : AwaitedFrame). f.serial ≢ write.serial))) (all_writes stored) waits.given waits.apart;
       forgotten = waits.forgotten;
     }
   where

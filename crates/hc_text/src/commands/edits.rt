@@ -10,10 +10,9 @@ use hc_records::edit::Edit;
 use hc_records::items::Items;
 use std::alloc::{AllocError, Global};
 
-/// The edit that a name and its arguments spell; none where the name is no edit's, where that edit has
-/// another number of arguments, or where a number is malformed or its type doesn't hold it: aliases,
-/// station addresses and PDO indexes are at most 65,535, areas and tasks 255. `AllocError` where a
-/// growth was refused.
+/// Returns the edit with a name and arguments. `None` if the name is no edit's, the number of arguments is wrong, or a number
+/// is malformed or too large: aliases, station addresses and PDO indexes are at most 65,535, areas and tasks 255. `AllocError`
+/// if an allocation fails.
 pub(super) fn edit_command_in(
     alloc: Global,
     name: &[u8],
@@ -27,7 +26,7 @@ pub(super) fn edit_command_in(
     }
 }
 
-/// The edit with a name and arguments; none if they spell no edit. `AllocError` if a growth is refused.
+/// Returns the edit with a name and arguments, or `None` if they are no edit's. `AllocError` if an allocation fails.
 fn edit_of(alloc: Global, name: &[u8], arguments: &[&[u8]]) -> Result<Option<Edit>, AllocError>
     ensures { IfOk result (λ edit. edit ≡ edit_in name.now (map (λ word. word.now) arguments.now)) }
 {
@@ -44,7 +43,7 @@ fn edit_of(alloc: Global, name: &[u8], arguments: &[&[u8]]) -> Result<Option<Edi
     }
 }
 
-/// The one argument as an alias.
+/// Returns the one argument as an alias.
 fn alias_of(arguments: &[&[u8]]) -> Option<u16>
     ensures { result ≡ alias_in (map (λ word. word.now) arguments.now) }
 {
@@ -55,8 +54,8 @@ fn alias_of(arguments: &[&[u8]]) -> Option<u16>
     }
 }
 
-/// The remap that a station address, an area and any number of PDO indexes spell; none if they are no such numbers.
-/// `AllocError` if a growth is refused.
+/// Returns the remap with a station address, an area and any number of PDO indexes, or `None` if they are no such numbers.
+/// `AllocError` if an allocation fails.
 fn remap_of(alloc: Global, arguments: &[&[u8]]) -> Result<Option<Edit>, AllocError>
     ensures { IfOk result (λ edit. edit ≡ remap_in (map (λ word. word.now) arguments.now)) }
 {
@@ -77,7 +76,7 @@ fn remap_of(alloc: Global, arguments: &[&[u8]]) -> Result<Option<Edit>, AllocErr
     }
 }
 
-/// The number of each word, where each is one of at most 65,535.
+/// Returns the number of each word, if each is one of at most 65,535.
 fn indexes_of(alloc: Global, words: &[&[u8]]) -> Result<Option<Items<u16>>, AllocError>
     ensures { IfOk result (λ indexes. indexes ≡ numbers_in 65535 (map (λ word. word.now) words.now)) }
 {
@@ -91,7 +90,8 @@ fn indexes_of(alloc: Global, words: &[&[u8]]) -> Result<Option<Items<u16>>, Allo
     Ok(Some(Items::of(indexes)))
 }
 
-/// The move that a station address, an area and a task spell; none if there are more or fewer words, or one is no such number.
+/// Returns the move with a station address, an area and a task, or `None` if there are more or fewer words, or one is no such
+/// number.
 fn move_of(arguments: &[&[u8]]) -> Option<Edit>
     ensures { result ≡ move_in (map (λ word. word.now) arguments.now) }
 {

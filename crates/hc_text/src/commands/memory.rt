@@ -1,4 +1,4 @@
-//! The commands `poke` and `peek`: their arguments are a slave and a part of its memory.
+//! The commands `poke` and `peek`, whose arguments are a slave and a range of its memory.
 ghost use Rattle.std.specs.Prelude.{◌≡◌, IfOk, map};
 ghost use Rattle.hc_text.specs.MemoryWords.{peek_in, peeking_in, poke_in, poking_in};
 
@@ -10,7 +10,7 @@ use hc_records::items::Items;
 use std::alloc::{AllocError, Global};
 use std::marker::Model;
 
-/// Bytes to be written to a machine's memory, where they all lie.
+/// Bytes to be written to a machine's memory, which all lie in it.
 #[derive(Debug, Drop)]
 pub struct Poke {
     station: u16,
@@ -34,7 +34,7 @@ impl Poke {
     ghost use Rattle.std.specs.Prelude.{◌≡◌, ◌+◌, ◌≤◌, length};
     ghost use Rattle.hc_machine.specs.declared.limits.TheConstants.{MEMORY_BYTES};
 
-    /// The slave's configured station address, the address of the first byte, and the bytes.
+    /// Returns the slave's configured station address, the address of the first byte, and the bytes.
     pub fn parts(&self) -> (u16, u16, &[u8])
         ensures station { result.0 ≡ self.now.station }
         ensures at { result.1 ≡ self.now.at }
@@ -45,7 +45,7 @@ impl Poke {
     }
 }
 
-/// Bytes to be read of a machine's memory, where they all lie.
+/// A range of bytes to be read from a machine's memory, which all lie in it.
 #[derive(Debug, Drop)]
 pub struct Peek {
     station: u16,
@@ -69,7 +69,7 @@ impl Peek {
     ghost use Rattle.std.specs.Prelude.{◌≡◌, ◌+◌, ◌≤◌};
     ghost use Rattle.hc_machine.specs.declared.limits.TheConstants.{MEMORY_BYTES};
 
-    /// The slave's configured station address, the address of the first byte, and how many bytes.
+    /// Returns the slave's configured station address, the address of the first byte, and the number of bytes.
     pub fn parts(&self) -> (u16, u16, u16)
         ensures station { result.0 ≡ self.now.station }
         ensures at { result.1 ≡ self.now.at }
@@ -80,7 +80,7 @@ impl Peek {
     }
 }
 
-/// What the arguments of a `poke` name.
+/// Returns the bytes to write that the arguments of a `poke` name.
 fn poke_of(alloc: Global, arguments: &[&[u8]]) -> Result<Option<Poke>, AllocError>
     ensures { IfOk result (λ spelt. spelt ≡ poking_in (map (λ word. word.now) arguments.now)) }
 {
@@ -109,8 +109,8 @@ fn poke_of(alloc: Global, arguments: &[&[u8]]) -> Result<Option<Poke>, AllocErro
     }
 }
 
-/// `poke`: its arguments are a station address, an address and bytes, two hexadecimal digits each; none where one is
-/// another, or where the bytes don't lie in memory, 0x0000 to 0x2FFF. `AllocError` where a growth was refused.
+/// Returns the `poke` with a station address, an address and bytes, two hexadecimal digits each. `None` if an argument is
+/// another, or the bytes do not lie in memory, 0x0000 to 0x2FFF. `AllocError` if an allocation fails.
 pub(super) fn poke_in(alloc: Global, arguments: &[&[u8]]) -> Result<Option<Command>, AllocError>
     ensures { IfOk result (λ spelt. spelt ≡ poke_in (map (λ word. word.now) arguments.now)) }
 {
@@ -120,7 +120,7 @@ pub(super) fn poke_in(alloc: Global, arguments: &[&[u8]]) -> Result<Option<Comma
     }
 }
 
-/// What the arguments of a `peek` name.
+/// Returns the range to read that the arguments of a `peek` name.
 fn peek_of(arguments: &[&[u8]]) -> Option<Peek>
     ensures { result ≡ peeking_in (map (λ word. word.now) arguments.now) }
 {
@@ -143,8 +143,8 @@ fn peek_of(arguments: &[&[u8]]) -> Option<Peek>
     }
 }
 
-/// `peek`: its arguments are a station address, an address and how many bytes, 1 to 1,486; none where one is another, or
-/// where they don't lie in memory, 0x0000 to 0x2FFF.
+/// Returns the `peek` with a station address, an address and a number of bytes, 1 to 1,486. `None` if an argument is another,
+/// or the bytes do not lie in memory, 0x0000 to 0x2FFF.
 pub(super) fn peek_in(arguments: &[&[u8]]) -> Option<Command>
     ensures { result ≡ peek_in (map (λ word. word.now) arguments.now) }
 {

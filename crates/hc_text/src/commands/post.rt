@@ -1,15 +1,15 @@
-//! The command `post`: its arguments are a task and the values that it posts.
+//! The command `post`, whose arguments are a task and the values that it posts.
 ghost use Rattle.std.specs.Prelude.{◌≡◌, [], ◌∷◌, IfOk, map};
 ghost use Rattle.hc_text.specs.PostWords.{post_in, posting_in, setting_in, setting_with, settings_in};
 
 use super::Command;
 use crate::lines::split_at_byte;
 use crate::numbers::{byte_in, number_in, quadruple_byte_in};
-use hc_conductor::one_thread::settings::Setting;
 use hc_records::items::Items;
+use hc_records::setting::Setting;
 use std::alloc::{AllocError, Global};
 
-/// What a `post` asks.
+/// The arguments of a `post`.
 #[derive(Debug, Drop)]
 pub struct Posting {
     /// The task; over 7 the command is refused.
@@ -18,7 +18,7 @@ pub struct Posting {
     pub settings: Items<Setting>,
 }
 
-/// The value for a variable that two numbers spell.
+/// Returns the value for a variable from two numbers.
 fn setting_with(variable: &[u8], value: &[u8]) -> Option<Setting>
     ensures { result ≡ setting_with (variable.now ∷ value.now ∷ []) }
 {
@@ -28,8 +28,8 @@ fn setting_with(variable: &[u8], value: &[u8]) -> Option<Setting>
     }
 }
 
-/// The value for a variable that a word `V=X` spells; none where it has no `=` or more than one, or where a number is
-/// malformed or too large: the variable's is at most 4,294,967,295, and the value has at most 64 bits.
+/// Returns the value for a variable from a word `V=X`. `None` if it has no `=` or more than one, or a number is malformed or
+/// too large: the variable's number is at most 4,294,967,295, and the value has at most 64 bits.
 fn setting_of(word: &[u8]) -> Option<Setting>
     ensures { result ≡ setting_in word.now }
 {
@@ -42,7 +42,7 @@ fn setting_of(word: &[u8]) -> Option<Setting>
     }
 }
 
-/// The value of each word, where each spells one.
+/// Returns the value in each word, if each has one.
 fn settings_of(alloc: Global, words: &[&[u8]]) -> Result<Option<Items<Setting>>, AllocError>
     ensures { IfOk result (λ settings. settings ≡ settings_in (map (λ word. word.now) words.now)) }
 {
@@ -56,8 +56,8 @@ fn settings_of(alloc: Global, words: &[&[u8]]) -> Result<Option<Items<Setting>>,
     Ok(Some(Items::of(settings)))
 }
 
-/// The posting that a task, at most 255, and any number of words `V=X` spell; none if a word is another. `AllocError` if a
-/// growth is refused.
+/// Returns the posting with a task, at most 255, and any number of words `V=X`, or `None` if a word is another. `AllocError` if
+/// an allocation fails.
 fn posting_of(alloc: Global, arguments: &[&[u8]]) -> Result<Option<Posting>, AllocError>
     ensures { IfOk result (λ posting. posting ≡ posting_in (map (λ word. word.now) arguments.now)) }
 {
@@ -73,8 +73,8 @@ fn posting_of(alloc: Global, arguments: &[&[u8]]) -> Result<Option<Posting>, All
     }
 }
 
-/// `post`: its arguments are a task, at most 255, and a word `V=X` for each value; none where a word is another.
-/// `AllocError` where a growth was refused.
+/// Returns the `post` with a task, at most 255, and a word `V=X` for each value, or `None` if a word is another. `AllocError`
+/// if an allocation fails.
 pub(super) fn post_in(alloc: Global, arguments: &[&[u8]]) -> Result<Option<Command>, AllocError>
     ensures { IfOk result (λ command. command ≡ post_in (map (λ word. word.now) arguments.now)) }
 {

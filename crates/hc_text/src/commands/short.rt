@@ -7,7 +7,7 @@ use crate::numbers::{byte_in, bytes_in, double_byte_in, quadruple_byte_in};
 use hc_records::items::Items;
 use std::alloc::{AllocError, Global};
 
-/// This command, which has no argument; none where there is one.
+/// Returns this command, which has no argument, or `None` if there is one.
 pub(super) fn alone_in(command: Command, arguments: &[&[u8]]) -> Option<Command>
     ensures { result ≡ alone_in command (map (λ word. word.now) arguments.now) }
 {
@@ -18,8 +18,7 @@ pub(super) fn alone_in(command: Command, arguments: &[&[u8]]) -> Option<Command>
     }
 }
 
-/// `regs`: its argument is a station address, at most 65,535; none where it is another, or where there isn't
-/// one argument.
+/// Returns the `regs` with a station address, at most 65,535, or `None` if the arguments are others.
 pub(super) fn regs_in(arguments: &[&[u8]]) -> Option<Command>
     ensures { result ≡ regs_in (map (λ word. word.now) arguments.now) }
 {
@@ -33,8 +32,7 @@ pub(super) fn regs_in(arguments: &[&[u8]]) -> Option<Command>
     }
 }
 
-/// `show`: its arguments are a task and the number of a datagram, each at most 255; none where one is another,
-/// or where there aren't two arguments.
+/// Returns the `show` with a task and the number of a datagram, each at most 255, or `None` if the arguments are others.
 pub(super) fn show_in(arguments: &[&[u8]]) -> Option<Command>
     ensures { result ≡ show_in (map (λ word. word.now) arguments.now) }
 {
@@ -49,8 +47,7 @@ pub(super) fn show_in(arguments: &[&[u8]]) -> Option<Command>
     }
 }
 
-/// `place`: its argument is the number of a variable, at most 4,294,967,295; none where it is another, or where
-/// there isn't one argument.
+/// Returns the `place` with the number of a variable, at most 4,294,967,295, or `None` if the arguments are others.
 pub(super) fn place_in(arguments: &[&[u8]]) -> Option<Command>
     ensures { result ≡ place_command (map (λ word. word.now) arguments.now) }
 {
@@ -64,8 +61,8 @@ pub(super) fn place_in(arguments: &[&[u8]]) -> Option<Command>
     }
 }
 
-/// `arrive`: its argument is the bytes that arrive, two hexadecimal digits each; none where it is another, or where
-/// there isn't one argument. `AllocError` where a growth was refused.
+/// Returns the `arrive` with the bytes that arrive, two hexadecimal digits each, or `None` if the arguments are others.
+/// `AllocError` if an allocation fails.
 pub(super) fn arrive_in(alloc: Global, arguments: &[&[u8]]) -> Result<Option<Command>, AllocError>
     ensures { IfOk result (λ spelt. spelt ≡ arrive_in (map (λ word. word.now) arguments.now)) }
 {
@@ -79,7 +76,7 @@ pub(super) fn arrive_in(alloc: Global, arguments: &[&[u8]]) -> Result<Option<Com
     }
 }
 
-/// `read`: its argument is a task, at most 255; none where it is another, or where there isn't one argument.
+/// Returns the `read` with a task, at most 255, or `None` if the arguments are others.
 pub(super) fn read_in(arguments: &[&[u8]]) -> Option<Command>
     ensures { result ≡ read_in (map (λ word. word.now) arguments.now) }
 {
@@ -93,8 +90,8 @@ pub(super) fn read_in(arguments: &[&[u8]]) -> Option<Command>
     }
 }
 
-/// `view`: its arguments are a task, at most 255, and the number of a variable, at most 4,294,967,295; none where one is
-/// another, or where there aren't two arguments.
+/// Returns the `view` with a task, at most 255, and the number of a variable, at most 4,294,967,295, or `None` if the arguments
+/// are others.
 pub(super) fn view_in(arguments: &[&[u8]]) -> Option<Command>
     ensures { result ≡ view_in (map (λ word. word.now) arguments.now) }
 {

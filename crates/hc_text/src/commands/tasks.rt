@@ -1,4 +1,4 @@
-//! The commands `send` and `cycle`: their arguments are the tasks that are sent together.
+//! The commands `send` and `cycle`, whose arguments are the tasks that are sent together.
 ghost use Rattle.std.specs.Prelude.{◌≡◌, ◌≤◌, length, map, option_map};
 ghost use Rattle.hc_records.specs.declared.limits.TheConstants.{TASKS};
 ghost use Rattle.hc_text.specs.Numbers.{numbers_in};
@@ -10,7 +10,7 @@ use arrayvec::ArrayVec;
 use hc_events::together::Together;
 use hc_records::limits::TASKS;
 
-/// The number of each word, where each is one of at most 255.
+/// Returns the number of each word, if each is one of at most 255.
 fn numbers_in(words: &[&[u8]]) -> Option<ArrayVec<u8, 8>>
     requires { length words.now ≤ TASKS }
     ensures { option_map (λ numbers. numbers.items) result ≡ numbers_in 255 (map (λ word. word.now) words.now) }
@@ -25,8 +25,8 @@ fn numbers_in(words: &[&[u8]]) -> Option<ArrayVec<u8, 8>>
     Some(numbers)
 }
 
-/// The tasks that words spell, each a number of at most 255; none where there is no word or more than 8, a word is no such
-/// number, or a task is there twice.
+/// Returns the tasks in some words, each a number of at most 255. `None` if there is no word or more than 8, a word is no such
+/// number, or a task is named twice.
 fn tasks_in(words: &[&[u8]]) -> Option<Together>
     ensures { result ≡ tasks_in (map (λ word. word.now) words.now) }
 {
@@ -36,7 +36,7 @@ fn tasks_in(words: &[&[u8]]) -> Option<Together>
     Together::of(numbers_in(words)?.as_slice())
 }
 
-/// `send`: its arguments are 1 to 8 tasks, each at most 255 and none twice; none where they are others.
+/// Returns the `send` with 1 to 8 tasks, each at most 255 and none twice, or `None` if the arguments are others.
 pub(super) fn send_in(arguments: &[&[u8]]) -> Option<Command>
     ensures { result ≡ send_in (map (λ word. word.now) arguments.now) }
 {
@@ -46,7 +46,7 @@ pub(super) fn send_in(arguments: &[&[u8]]) -> Option<Command>
     }
 }
 
-/// `cycle`: its arguments are those of `send`; none where they are others.
+/// Returns the `cycle` with 1 to 8 tasks, each at most 255 and none twice, or `None` if the arguments are others.
 pub(super) fn cycle_in(arguments: &[&[u8]]) -> Option<Command>
     ensures { result ≡ cycle_in (map (λ word. word.now) arguments.now) }
 {

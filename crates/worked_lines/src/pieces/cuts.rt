@@ -18,7 +18,7 @@ fn begin_at(list: &[(Key, u16)], keys: &[Key]) -> bool
     }
 }
 
-/// So many areas of 1,400 bytes, which fill a datagram each.
+/// Returns `areas` areas of 1,400 bytes, each of which fills a datagram.
 fn filling(alloc: Global, areas: u16) -> Result<Vec<(Key, u16)>, AllocError>
     ensures { IfOk result (λ list. All IsPackable list.items) }
 {

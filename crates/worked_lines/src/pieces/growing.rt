@@ -83,7 +83,7 @@ fn repaired<L: Ledger>(cuts: &mut Cuts, slaves: u16, area: Width, blank: Blank) 
     cuts.repair(&hulls, &mut steps).is_ok()
 }
 
-/// The same, whose steps nobody reads.
+/// Sets the width of an area, repairs the boundaries, and returns whether 16 datagrams hold the task. Nobody reads the steps.
 fn holds(cuts: &mut Cuts, slaves: u16, area: Width) -> bool
     requires slaves { cuts.old.tree.slaves ≡ slaves }
     requires holds { HoldsTaskList cuts.old.tree }

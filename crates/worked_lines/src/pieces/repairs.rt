@@ -60,7 +60,8 @@ fn leaves_counted<L: Ledger>(cuts: &mut Cuts, areas: &[Width], spans: u32, blank
     }
 }
 
-/// The same, whose steps nobody reads.
+/// Sets widths of a task that is cut, repairs its boundaries, and returns whether as many spans are not settled. Nobody reads
+/// the steps.
 fn leaves(cuts: &mut Cuts, areas: &[Width], spans: u32) -> bool
     requires slaves { cuts.old.tree.slaves ≡ 20 }
     requires holds { HoldsTaskList cuts.old.tree }

@@ -20,7 +20,7 @@ fn drawn(state: &mut u64) -> u8 {
     (*state >> 56) as u8
 }
 
-/// So many drawn bytes.
+/// Returns `count` drawn bytes.
 fn drawn_bytes(alloc: Global, state: &mut u64, count: usize) -> Result<Vec<u8>, AllocError> {
     let mut bytes = Vec::with_capacity(alloc, count)?;
     for _ in 0..count {
@@ -137,7 +137,7 @@ struct Count {
 }
 
 impl Count {
-    /// The same with one more.
+    /// Returns the count with one more answer.
     fn with(self, answered: &Answered) -> Count {
         let declared = answered.is_declaration && answered.refused.is_none();
         Count {

@@ -1,7 +1,7 @@
 use Rattle.std.proofs.Common.{◌∙◌, append-nil, sym}
 use Rattle.std.proofs.lemmas.List.{drop_all}
 use Rattle.hc_changes.specs.Rows.{area_variables_of, assigned_variables}
-use Rattle.hc_changes.proofs.Adding.{all-added}
+use Rattle.hc_changes.proofs.lemmas.Lists.{all-added}
 use Rattle.hc_changes.proofs.rows.slave_variables.Goals as goal
 
 pub loop-area-preserved : goal.loop-area-preserved

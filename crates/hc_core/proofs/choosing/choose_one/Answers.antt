@@ -1,4 +1,5 @@
 use Rattle.std.proofs.Common.{◌+◌, refl, sym, subst, rules}
+use Rattle.hc_owed.specs.Laws.{owed_from}
 use Rattle.hc_sendings.specs.WriteFrames.{WriteFrame, block_joined}
 use Rattle.hc_core.specs.Chosen.{IsChosenFrom}
 use Rattle.hc_core.proofs.ChosenBlocks.{chosen-more, chosen-zero, placed-sized}
@@ -15,6 +16,6 @@ returns-then-has_room c = λ unchanged.
     let old = c.args.frame.now in
     let joined = block_joined next old in
     let is = c.in-Some.ensures unchanged in
-    let over = chosen-zero unchanged.known unchanged.state (next.place + 1) 0 joined refl in
-    subst (λ (frame : WriteFrame). IsChosenFrom unchanged.known unchanged.state 0 1 old frame) (sym c.join.ensures)
-    (chosen-more unchanged.known unchanged.state 0 1 0 old joined next is (search (rules, c.has_room.ensures, c.bytes.ensures)) (search rules) over)
+    let over = chosen-zero (owed_from unchanged.known unchanged.state) unchanged.state (next.place + 1) 0 joined refl in
+    subst (λ (frame : WriteFrame). IsChosenFrom (owed_from unchanged.known unchanged.state) unchanged.state 0 1 old frame) (sym c.join.ensures)
+    (chosen-more (owed_from unchanged.known unchanged.state) unchanged.state 0 1 0 old joined next is (search (rules, c.has_room.ensures, c.bytes.ensures)) (search rules) over)

@@ -45,12 +45,12 @@ returns-clause-sent c =
     }
 
 pub returns-clause-meant : goal.returns-clause-meant
-returns-clause-meant c ready =
+returns-clause-meant c can_be =
     let state = c.args.plan.now in
     let places = c.places-places.ensures in
     let can = can-configure state places.unchanged places.uncrowded in
     let bytes = c.hold_bytes.ensures.bytes in
-    let of_line = machines-of (line state) c.args.segment.now bytes c.hold_bytes.ensures.sizes ready in
+    let of_line = machines-of (line state) c.args.segment.now bytes c.hold_bytes.ensures.sizes can_be in
     let written = machines_written (line state) c.args.segment.now in
     joined state c.args.task (length (line_blocks (line state))) c.args.outputs.now c.args.segment.now _ c.send_all.new.segment can of_line
     (exchanged-alone state c.args.task (length (line_blocks (line state))) c.args.outputs.now written _ c.send_all.new.segment

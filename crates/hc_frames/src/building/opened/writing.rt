@@ -1,4 +1,4 @@
-//! Writes a frame of several datagrams and opens it.
+//! The builder of a frame of several datagrams, which opens it.
 ghost use Rattle.std.specs.Borrow.{sem};
 ghost use Rattle.hc_frames.specs.Handing.{LendsOpen};
 ghost use Rattle.std.specs.Prelude.{◌++◌, ◌≡◌, ◌^◌, ◌<◌, ◌≤◌, ◌↔◌, length, drop, map, IsErr, IfOk, IfErr};
@@ -11,7 +11,7 @@ use crate::building::Room;
 use crate::building::frames::{build_blank_frame, datagrams_size, frame_bytes};
 use crate::limits::HEAD_BYTES;
 
-/// The bytes of a frame of these datagrams.
+/// Returns the length of a frame of these datagrams.
 fn whole_size(datagrams: &[(u32, u16)]) -> usize
     requires { ShareFrame datagrams.now }
     ensures { result ≡ frame_bytes (datagrams_size datagrams.now) }
@@ -19,7 +19,7 @@ fn whole_size(datagrams: &[(u32, u16)]) -> usize
     frame_bytes(datagrams_size(datagrams))
 }
 
-/// Writes a frame with data of zeros to the front of a slice, and hands back the slice.
+/// Writes a frame of zeros to the front of a slice, and returns the slice.
 fn with_blank_frame<'a>(out: &'a mut [u8], serial: u64, datagrams: &'a [(u32, u16)]) -> &'a mut [u8]
     requires room { frame_bytes (datagrams_size datagrams.now) ≤ length out.old }
     requires serial { serial < 2 ^ 40 }
@@ -31,10 +31,10 @@ fn with_blank_frame<'a>(out: &'a mut [u8], serial: u64, datagrams: &'a [(u32, u1
     out
 }
 
-/// Writes a frame of LRW datagrams, given by address and number of data bytes, to the front of `out`, with data of zeros,
-/// and opens it: `Open::next` lends the data parts. The datagrams have 1 data byte or more each, and 1,498 bytes at most
-/// with the 12 bytes beside the data of each; `serial` is below 2^40. When the loan ends `out` is the frame's first 16
-/// bytes and what was left after them. `Room` with the size needed where `out` is shorter; `out` then stays as it was.
+/// Writes a frame of LRW datagrams of zeros to the front of `out`, and opens it: `Open::next` lends the data parts. The
+/// datagrams are given by address and number of data bytes, at least 1 each; with 12 bytes beside the data of each they have at
+/// most 1,498 bytes. `serial` is below 2^40. After the loans `out` is the frame's first 16 bytes and what was left after them.
+/// Fails with `Room` and the length needed if `out` is shorter; then `out` is unchanged.
 pub fn build_frame<'a>(
     out: &'a mut [u8],
     serial: u64,

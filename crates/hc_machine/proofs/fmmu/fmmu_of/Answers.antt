@@ -8,7 +8,7 @@ returns-clause-value c =
     let block = c.args.block.now in
     let on : is_active block ≡ true = c.requires in
     let logical : 8 * c.logical_start_address-start.result + c.from.result ≡ first_logical block = omega arith in
-    let end : c.saturating_sub-end.result ≡ end_logical block = omega arith in
+    let end : c.end_logical-end.result ≡ end_logical block = c.end_logical-end.ensures in
     let memory : c.min-memory.result ≡ first_memory block = omega arith in
     let width : c.min.result ≡ min (end_logical block - first_logical block) (98304 - first_memory block) = cc in
     let reads : (c.fmmu_type.result % 2 == 1) ≡ is_read block = cc in

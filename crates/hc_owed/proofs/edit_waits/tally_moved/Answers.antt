@@ -6,7 +6,7 @@ use Rattle.hc_registers.specs.RankDifferences.{block_place}
 use Rattle.hc_owed.specs.declared.area.JudgedArea.{JudgedArea}
 use Rattle.hc_owed.specs.declared.tally.Tally.{Tally}
 use Rattle.hc_owed.specs.RegisterState.{RegisterState}
-use Rattle.hc_owed.proofs.Opened.{item-cons}
+use Rattle.hc_plan.proofs.lemmas.Replaced.{item-cons}
 use Rattle.hc_owed.proofs.TallyingMoved.{AreTallied, all-tallied, ascends, can-put-moved, more-tallied}
 use Rattle.hc_owed.proofs.edit_waits.tally_moved.Goals as goal
 

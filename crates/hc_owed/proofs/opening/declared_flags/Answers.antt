@@ -1,6 +1,7 @@
 use Rattle.std.proofs.Common.{rules, ◌∙◌, append-nil, sym}
 use Rattle.std.proofs.lemmas.List.{append_assoc, length-append, drop_all}
-use Rattle.hc_owed.proofs.Opened.{item-cons, length-slaves_flags}
+use Rattle.hc_plan.proofs.lemmas.Replaced.{item-cons}
+use Rattle.hc_owed.proofs.Opened.{length-slaves_flags}
 use Rattle.hc_owed.proofs.opening.declared_flags.Goals as goal
 
 pub push_slaves-requires : goal.push_slaves-requires

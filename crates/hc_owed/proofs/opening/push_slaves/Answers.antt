@@ -1,6 +1,7 @@
 use Rattle.std.proofs.Common.{rules}
 use Rattle.std.proofs.lemmas.List.{append_assoc, length-append}
-use Rattle.hc_owed.proofs.Opened.{item-cons, length-flags_of_slave}
+use Rattle.hc_plan.proofs.lemmas.Replaced.{item-cons}
+use Rattle.hc_owed.proofs.Opened.{length-flags_of_slave}
 use Rattle.hc_owed.proofs.opening.push_slaves.Goals as goal
 
 pub push_slave-requires : goal.push_slave-requires

@@ -8,8 +8,8 @@ use Rattle.hc_plan.proofs.Editing.{made-accepted, made-over_limit, made-spent}
 use Rattle.hc_plan.proofs.Saying.{moved-count, moved-few, moved-named}
 use Rattle.hc_plan.proofs.applying.work_out.Goals as goal
 
-pub see_new_line-seen-requires-clause-known : goal.see_new_line-seen-requires-clause-known
-see_new_line-seen-requires-clause-known g c =
+pub say-leading-requires-clause-known : goal.say-leading-requires-clause-known
+say-leading-requires-clause-known g c =
     let it = c.args.edited_line.now in
     c.of-known.ensures (areas_by_rank it.old) (areas_by_rank it.new) (edited_line-lines it c.change.result.now c.requires.edit.is c.change.ensures)
     c.requires.trees
@@ -66,14 +66,11 @@ returns-clause-accepted g c =
 pub apply_line_widths-requires-clause-trees : goal.apply_line_widths-requires-clause-trees
 apply_line_widths-requires-clause-trees g c = c.requires.trees
 
-pub see_new_line-seen-requires-clause-trees : goal.see_new_line-seen-requires-clause-trees
-see_new_line-seen-requires-clause-trees g c = c.in-Ok.ensures.applied
+pub say-leading-requires-clause-trees : goal.say-leading-requires-clause-trees
+say-leading-requires-clause-trees g c = c.in-Ok.ensures.applied
 
 pub restore_line_widths-requires-clause-trees : goal.restore_line_widths-requires-clause-trees
 restore_line_widths-requires-clause-trees g c = c.in-Ok.ensures.applied
-
-pub say-requires-clause-trees : goal.say-requires-clause-trees
-say-requires-clause-trees g c = c.restore_line_widths.ensures
 
 pub returns-in-Err-clause-unchanged : goal.returns-in-Err-clause-unchanged
 returns-in-Err-clause-unchanged g c = c.in-Err.ensures.unchanged
@@ -81,21 +78,13 @@ returns-in-Err-clause-unchanged g c = c.in-Err.ensures.unchanged
 pub returns-then-epoch-eq-LAST_EPOCH-clause-unchanged : goal.returns-then-epoch-eq-LAST_EPOCH-clause-unchanged
 returns-then-epoch-eq-LAST_EPOCH-clause-unchanged g c = c.restore_line_widths.ensures ∙ sym c.requires.trees
 
-pub returns-in_err-seen-clause-unchanged : goal.returns-in_err-seen-clause-unchanged
-returns-in_err-seen-clause-unchanged g c = c.restore_line_widths.ensures ∙ sym c.requires.trees
-
 pub returns-in_err-blocks-clause-unchanged : goal.returns-in_err-blocks-clause-unchanged
 returns-in_err-blocks-clause-unchanged g c = c.restore_line_widths.ensures ∙ sym c.requires.trees
 
 pub returns-clause-unchanged : goal.returns-clause-unchanged
 returns-clause-unchanged g c = c.restore_line_widths.ensures ∙ sym c.requires.trees
 
-pub returns-in_err-seen-clause-refused : goal.returns-in_err-seen-clause-refused
-returns-in_err-seen-clause-refused g c =
-    let p = err_from_is_err_and c.from_residual.result c.from_residual.ensures.1 in
-    rw (p.1, p.2) (λ other. absurd (other refl))
-
 pub returns-in_err-blocks-clause-refused : goal.returns-in_err-blocks-clause-refused
 returns-in_err-blocks-clause-refused g c =
-    let p = err_from_is_err_and c.from_residual-in_err-blocks.result c.from_residual-in_err-blocks.ensures.1 in
+    let p = err_from_is_err_and c.from_residual.result c.from_residual.ensures.1 in
     rw (p.1, p.2) (λ other. absurd (other refl))

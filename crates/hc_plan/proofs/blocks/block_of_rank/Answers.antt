@@ -1,38 +1,16 @@
-use Rattle.std.proofs.Common.{◌∙◌, ◌==◌, ℕ, Some, sym, ap, subst}
-use Rattle.std.specs.Prelude.{option_map, slice_get}
+use Rattle.std.proofs.Common.{◌∙◌, None, Some, sym, ap}
 use Rattle.hc_records.specs.declared.records.Slave.{Slave}
-use Rattle.hc_records.specs.Line.{Member}
-use Rattle.hc_registers.specs.Blocks.{LineBlock, RegisterBlock}
-use Rattle.hc_plan.specs.inner.Blocks.{IsMappedSlave, RowsMap, slave_blocks_in}
-use Rattle.hc_plan.proofs.LineBlocks.{found-mapped, found-ranked, same-member}
-use Rattle.hc_plan.proofs.RowsMapped.{found-rows}
+use Rattle.hc_plan.proofs.LookUps.{of_slave, stored-ranked}
 use Rattle.hc_plan.proofs.blocks.block_of_rank.Goals as goal
-
-abbrev of_slave : ℕ → ℕ → RegisterBlock → LineBlock
-of_slave station number block = record { station = station; number = number; block = block }
-
-pub slave_block-requires-clause-mapped : goal.slave_block-requires-clause-mapped
-slave_block-requires-clause-mapped c =
-    subst (IsMappedSlave c.args.layout.now) (same-member c.rank.result c.slave.result.now c.in_ok-slave.slave c.rank.ensures c.slave.ensures)
-    (found-mapped c.args.groups.now c.args.layout.now (λ m. m.rank == c.args.rank) c.in_ok-slave.slave c.requires.layout (sym c.in_ok-slave.ensures))
-
-pub slave_block-requires-clause-rows : goal.slave_block-requires-clause-rows
-slave_block-requires-clause-rows c =
-    subst (RowsMap c.args.table.now c.args.layout.now) (same-member c.rank.result c.slave.result.now c.in_ok-slave.slave c.rank.ensures c.slave.ensures)
-    (found-rows c.args.groups.now c.args.layout.now c.args.table.now (λ m. m.rank == c.args.rank) c.in_ok-slave.slave c.requires.layout c.requires.table (sym c.in_ok-slave.ensures))
 
 pub returns-in_err-block : goal.returns-in_err-block
 returns-in_err-block c =
-    let member = c.in_ok-slave.slave in
-    let same = same-member c.rank.result c.slave.result.now member c.rank.ensures c.slave.ensures in
     c.from_residual-in_err-block.ensures
-    ∙ sym (found-ranked c.args.groups.now c.args.layout.now c.args.rank c.args.number member c.requires.layout (sym c.in_ok-slave.ensures)
-    ∙ ap (option_map (of_slave member.slave.station c.args.number)) (ap (λ (m : Member). slice_get (slave_blocks_in c.args.layout.now m) c.args.number) same ∙ sym c.in_err-block.ensures))
+    ∙ stored-ranked c.args.groups.now c.args.blocks.now c.args.rank c.in_ok-slave.slave c.rank.result c.args.number None c.requires (sym c.in_ok-slave.ensures) c.rank.ensures
+    (c.in_err-block.ensures.low, c.in_err-block.ensures.high)
 
 pub returns : goal.returns
 returns c =
-    let member = c.in_ok-slave.slave in
-    let same = same-member c.rank.result c.slave.result.now member c.rank.ensures c.slave.ensures in
-    sym (found-ranked c.args.groups.now c.args.layout.now c.args.rank c.args.number member c.requires.layout (sym c.in_ok-slave.ensures)
-    ∙ ap (option_map (of_slave member.slave.station c.args.number)) (ap (λ (m : Member). slice_get (slave_blocks_in c.args.layout.now m) c.args.number) same ∙ sym c.in_ok-block.ensures)
-    ∙ ap (λ (slave : Slave). Some (of_slave slave.station c.args.number c.in_ok-block.block)) (sym c.slave-2.ensures))
+    ap (λ (slave : Slave). Some (of_slave slave.station c.args.number c.in_ok-block.block)) c.slave.ensures
+    ∙ stored-ranked c.args.groups.now c.args.blocks.now c.args.rank c.in_ok-slave.slave c.rank.result c.args.number (Some c.in_ok-block.block) c.requires (sym c.in_ok-slave.ensures) c.rank.ensures
+    (c.in_ok-block.ensures.low, c.in_ok-block.ensures.high)

@@ -1,12 +1,12 @@
 -- What was read so far, with what is left, is what the whole array reads as.
-use Rattle.std.proofs.Common.{◌≡◌, ◌++◌, ◌||◌, drop}
+use Rattle.std.proofs.Common.{◌≡◌, ◌++◌, drop}
 use Rattle.toml.specs.View.{items_view}
 use Rattle.hc_project.specs.Arrays.{each}
+use Rattle.hc_project.specs.Reading.{both}
 use Rattle.hc_project.proofs.arrays.read_each.Given as goal
 
-abbrev pub invariant-loop-value : goal.invariant-loop-value
-invariant-loop-value g l = record {
-  items : l.items ++ (each g.T.Readable.reads (items_view (drop l.value-index l.values))).value ≡ (each g.T.Readable.reads (items_view l.values)).value;
-  missing : (l.syntax_faults.missing || (each g.T.Readable.reads (items_view (drop l.value-index l.values))).syntax_faults.missing) ≡ (each g.T.Readable.reads (items_view l.values)).syntax_faults.missing;
-  outside : (l.syntax_faults.outside || (each g.T.Readable.reads (items_view (drop l.value-index l.values))).syntax_faults.outside) ≡ (each g.T.Readable.reads (items_view l.values)).syntax_faults.outside;
+abbrev pub invariant-loop-index : goal.invariant-loop-index
+invariant-loop-index g l = record {
+  items : l.items ++ (each (g.T.Readable.reads l.most l.place) l.index (items_view (drop l.index l.values))).value ≡ (each (g.T.Readable.reads l.most l.place) 0 (items_view l.values)).value;
+  faults : both l.syntax_faults (each (g.T.Readable.reads l.most l.place) l.index (items_view (drop l.index l.values))).syntax_faults ≡ (each (g.T.Readable.reads l.most l.place) 0 (items_view l.values)).syntax_faults;
 }

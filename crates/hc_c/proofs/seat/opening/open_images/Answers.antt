@@ -1,6 +1,6 @@
 use Rattle.std.proofs.Common.{rules, ◌∙◌, List, [], ◌∷◌, ◌++◌, ap, sym, subst}
 use Rattle.hc_mail.specs.Contents.{StartsWith}
-use Rattle.hc_mail.specs.Ends.{ReceiverEnd, SenderEnd, reported, seen}
+use Rattle.hc_mail.specs.Ends.{ReceiverEnd, SenderEnd, seen}
 use Rattle.hc_mail.specs.Images.{Image}
 use Rattle.hc_c.specs.SeatImages.{image_shown}
 use Rattle.hc_c.proofs.Mailed.{both-begin}

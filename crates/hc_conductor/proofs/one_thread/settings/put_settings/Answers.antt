@@ -5,7 +5,7 @@ use Rattle.std.proofs.lemmas.List.{at_drop_more}
 use Rattle.hc_publish.specs.ChangesSince.{table_shown}
 use Rattle.hc_conductor.specs.Views.{answered_to}
 use Rattle.hc_conductor.specs.declared.one_thread.refusals.PostRefusal.{PostRefusal}
-use Rattle.hc_conductor.specs.declared.one_thread.settings.Setting.{Setting}
+use Rattle.hc_records.specs.declared.setting.Setting.{Setting}
 use Rattle.hc_conductor.specs.Posting.{first_refused, setting_refused}
 use Rattle.hc_conductor.proofs.one_thread.settings.put_settings.Goals as goal
 

@@ -1,5 +1,4 @@
 use Rattle.std.proofs.Common.{◌∷◌, ◌∙◌, ap, refl}
-use Rattle.std.specs.Prelude.{vec_capacity}
 use Rattle.hc_records.specs.Edits.{state_after}
 use Rattle.hc_events.specs.Entries.{Edited}
 use Rattle.hc_events.specs.Points.{state_of}
@@ -11,8 +10,7 @@ use Rattle.hc_core.proofs.keeping.Core.carry_out.Goals as goal
 
 pub carry-requires : goal.carry-requires
 carry-requires c =
-    core_edit-here c.core_edit.inside.core.value c.args.self.now c.args.self.now c.args.core_edit c.core_edit.inside.edit c.core_edit.inside.moves c.core_edit.inside.slaves c.core_edit.inside.room.items
-    (vec_capacity c.core_edit.inside.room) c.core_edit.invariant.0 c.core_edit.view_is c.requires refl
+    core_edit-here c.core_edit.inside.core.value c.args.self.now c.args.self.now c.args.core_edit c.core_edit.inside.planned c.core_edit.invariant.0 c.core_edit.view_is c.requires refl
 
 pub returns-clause-answer : goal.returns-clause-answer
 returns-clause-answer c =

@@ -10,17 +10,17 @@ use Rattle.hc_core.proofs.keeping.Core.owed_block.Goals as goal
 pub returns-in_err-found-clause-block : goal.returns-in_err-found-clause-block
 returns-in_err-found-clause-block c =
     let history = history_read c.self.inside.history in
-    let none = c.in_err-found.ensures (known_bytes history) (state_of history) (record { right = c.self.invariant.known; project = c.self.invariant.project }) in
+    let none = c.in_err-found.ensures (known_bytes history) (state_of history) c.self.invariant.state (record { right = c.self.invariant.known; project = c.self.invariant.project }) in
     c.from_residual.ensures ∙ sym none ∙ ap (λ (state : CoreState). slice_get (owed_blocks state.history) c.args.index) c.self.view_is
 
 pub returns-clause-block : goal.returns-clause-block
 returns-clause-block c =
     let history = history_read c.self.inside.history in
-    let found = c.in_ok-found.ensures (known_bytes history) (state_of history) (record { right = c.self.invariant.known; project = c.self.invariant.project }) in
+    let found = c.in_ok-found.ensures (known_bytes history) (state_of history) c.self.invariant.state (record { right = c.self.invariant.known; project = c.self.invariant.project }) in
     sym found.is ∙ ap (λ (state : CoreState). slice_get (owed_blocks state.history) c.args.index) c.self.view_is
 
 pub returns-clause-bytes : goal.returns-clause-bytes
 returns-clause-bytes c =
     let history = history_read c.self.inside.history in
-    let found = c.in_ok-found.ensures (known_bytes history) (state_of history) (record { right = c.self.invariant.known; project = c.self.invariant.project }) in
+    let found = c.in_ok-found.ensures (known_bytes history) (state_of history) c.self.invariant.state (record { right = c.self.invariant.known; project = c.self.invariant.project }) in
     owed-bytes history c.args.index c.in_ok-found.found.block found.is

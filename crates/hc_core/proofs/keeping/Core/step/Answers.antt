@@ -37,3 +37,6 @@ returns-in-Cleared-clause-stale c = search (rules, stale-leaves)
 
 pub returns-in-Unplugged-clause-stale : goal.returns-in-Unplugged-clause-stale
 returns-in-Unplugged-clause-stale c = search (rules, stale-leaves)
+
+pub returns-in-SendFurther-clause-stale : goal.returns-in-SendFurther-clause-stale
+returns-in-SendFurther-clause-stale c = search (rules, stale-leaves)

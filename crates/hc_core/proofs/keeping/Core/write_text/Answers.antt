@@ -2,7 +2,7 @@ use Rattle.std.proofs.Common.{◌≡◌, ◌∷◌, ◌∙◌, ◌+◌, ◌<◌,
 use Rattle.hc_records.specs.Lists.{lowest}
 use Rattle.hc_registers.specs.Blocks.{LineBlock}
 use Rattle.hc_frames.specs.declared.limits.TheConstants.{SETUP_SERIAL}
-use Rattle.hc_events.specs.Accepted.{IsWrite}
+use Rattle.hc_events.specs.Accepted.{IsFirstWrite, IsWrite}
 use Rattle.hc_events.specs.Entries.{History, Wrote}
 use Rattle.hc_events.specs.Holding.{is_unplugged, may_hold}
 use Rattle.hc_events.specs.Owed.{known_bytes, owed_blocks}
@@ -18,7 +18,7 @@ use Rattle.hc_sendings.specs.WriteFrames.{block_of}
 use Rattle.hc_core.proofs.FirstBlocks.{are-first, can-mark, can-mark_areas, stays-blocks, placed-text}
 use Rattle.hc_core.proofs.Rooms.{older-few, same-length}
 use Rattle.hc_core.proofs.Sendings.{agree-wrote}
-use Rattle.hc_core.proofs.Writes.{first-write, serial-left}
+use Rattle.hc_core.proofs.Writes.{first-kind, first-write, serial-left}
 use Rattle.hc_core.specs.Agreement.{Agree, core_parts}
 use Rattle.hc_core.specs.Chosen.{known_sent}
 use Rattle.hc_core.specs.Held.{held_sent}
@@ -35,9 +35,10 @@ write-requires-clause-room c =
     let frame = c.choose_first.new.frame in
     let none = subst (λ (state : CoreState). lowest (write_faults state.history (owed_blocks state.history)) ≡ None) (sym c.self.view_is) c.in_ok-can_write.ensures.accepted in
     let first = are-first (core_parts inside) history taken c.args.most c.clear.new.self frame c.self.invariant c.clear.ensures (c.choose_first.ensures (stays-blocks (core_parts inside) history taken c.self.invariant)) in
-    let write : IsWrite (owed_blocks history) (map block_of frame.blocks) = subst (IsWrite (owed_blocks history)) (sym first.blocks) (first-write history c.args.most c.requires none) in
+    let write : IsWrite history (map block_of frame.blocks) = subst (IsWrite history) (sym first.blocks) (first-write history c.args.most c.requires none) in
+    let kind : IsFirstWrite (owed_blocks history) (map block_of frame.blocks) = subst (IsFirstWrite (owed_blocks history)) (sym first.blocks) (first-kind history c.args.most c.requires) in
     subst (λ (placed : List PlacedBlock). length (older_writes (map awaited_block placed) inside.awaited) < AWAITED_WRITES) (sym c.blocks-2.ensures.blocks)
-    (older-few (core_parts inside) history taken frame.blocks write c.self.invariant)
+    (older-few (core_parts inside) history taken frame.blocks write kind c.self.invariant)
 
 pub mark_sent-requires : goal.mark_sent-requires
 mark_sent-requires c =
@@ -47,7 +48,7 @@ mark_sent-requires c =
     let frame = c.choose_first.new.frame in
     let none = subst (λ (state : CoreState). lowest (write_faults state.history (owed_blocks state.history)) ≡ None) (sym c.self.view_is) c.in_ok-can_write.ensures.accepted in
     let first = are-first (core_parts inside) history taken c.args.most c.clear.new.self frame c.self.invariant c.clear.ensures (c.choose_first.ensures (stays-blocks (core_parts inside) history taken c.self.invariant)) in
-    let write : IsWrite (owed_blocks history) (map block_of frame.blocks) = subst (IsWrite (owed_blocks history)) (sym first.blocks) (first-write history c.args.most c.requires none) in
+    let write : IsWrite history (map block_of frame.blocks) = subst (IsWrite history) (sym first.blocks) (first-write history c.args.most c.requires none) in
     can-mark (core_parts inside) history taken frame.blocks c.blocks-3.result.now c.blocks-3.ensures.blocks c.self.invariant write first.placed
 
 pub mark_areas-requires : goal.mark_areas-requires
@@ -58,7 +59,7 @@ mark_areas-requires c =
     let frame = c.choose_first.new.frame in
     let none = subst (λ (state : CoreState). lowest (write_faults state.history (owed_blocks state.history)) ≡ None) (sym c.self.view_is) c.in_ok-can_write.ensures.accepted in
     let first = are-first (core_parts inside) history taken c.args.most c.clear.new.self frame c.self.invariant c.clear.ensures (c.choose_first.ensures (stays-blocks (core_parts inside) history taken c.self.invariant)) in
-    let write : IsWrite (owed_blocks history) (map block_of frame.blocks) = subst (IsWrite (owed_blocks history)) (sym first.blocks) (first-write history c.args.most c.requires none) in
+    let write : IsWrite history (map block_of frame.blocks) = subst (IsWrite history) (sym first.blocks) (first-write history c.args.most c.requires none) in
     can-mark_areas (core_parts inside) history taken frame.blocks c.blocks-4.result.now c.blocks-4.ensures.blocks c.self.invariant write first.placed
 
 pub invariant_of-self-2 : goal.invariant_of-self-2
@@ -72,7 +73,8 @@ invariant_of-self-2 c =
     let serial = inside.serial + 1 in
     let none = subst (λ (state : CoreState). lowest (write_faults state.history (owed_blocks state.history)) ≡ None) (sym c.self.view_is) c.in_ok-can_write.ensures.accepted in
     let first = are-first unchanged history taken c.args.most c.clear.new.self frame c.self.invariant c.clear.ensures (c.choose_first.ensures (stays-blocks unchanged history taken c.self.invariant)) in
-    let write : IsWrite (owed_blocks history) (map block_of frame.blocks) = subst (IsWrite (owed_blocks history)) (sym first.blocks) (first-write history c.args.most c.requires none) in
+    let write : IsWrite history (map block_of frame.blocks) = subst (IsWrite history) (sym first.blocks) (first-write history c.args.most c.requires none) in
+    let kind : IsFirstWrite (owed_blocks history) (map block_of frame.blocks) = subst (IsFirstWrite (owed_blocks history)) (sym first.blocks) (first-kind history c.args.most c.requires) in
     let left : inside.serial < SETUP_SERIAL = subst (λ (n : ℕ). n < SETUP_SERIAL) (sym c.self.invariant.serial) (serial-left history none) in
     let sent = c.mark_sent.ensures (can-mark unchanged history taken frame.blocks c.blocks-3.result.now c.blocks-3.ensures.blocks c.self.invariant write first.placed)
     ∙ ap (λ (placed : List PlacedBlock). register_state_of (known_sent placed (known_bytes history)) (state_of history)) c.blocks-3.ensures.blocks in
@@ -81,7 +83,7 @@ invariant_of-self-2 c =
     let awaited = c.write.ensures ∙ ap (λ (placed : List PlacedBlock). wrote inside.serial (map awaited_block placed) inside.awaited) c.blocks-2.ensures.blocks in
     subst (λ (grows : History). Agree (record unchanged { awaited = c.write.new.self; owed = owed; readiness = c.mark_areas.new.readiness; serial = serial }) grows taken) (sym c.wrote.ensures)
     (subst (λ (waiting : Waiting). Agree (record unchanged { awaited = waiting; owed = owed; readiness = c.mark_areas.new.readiness; serial = serial }) (Wrote (map block_of frame.blocks) ∷ history) taken) (sym awaited)
-    (agree-wrote unchanged history taken frame.blocks owed c.mark_areas.new.readiness write first.placed left sent areas c.self.invariant))
+    (agree-wrote unchanged history taken frame.blocks owed c.mark_areas.new.readiness write kind first.placed left sent areas c.self.invariant))
 
 pub returns-clause-text : goal.returns-clause-text
 returns-clause-text c =

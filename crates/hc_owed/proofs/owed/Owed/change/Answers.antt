@@ -4,7 +4,7 @@ use Rattle.hc_registers.specs.RankDifferences.{block_place, first_gone}
 use Rattle.hc_owed.specs.RegisterState.{RegisterState}
 use Rattle.hc_owed.specs.Steps.{cleared, compared_all}
 use Rattle.hc_owed.proofs.Changing.{change-right, known-size, moved-inside}
-use Rattle.hc_owed.proofs.Lists.{length-filled}
+use Rattle.hc_plan.proofs.lemmas.Replaced.{length-filled}
 use Rattle.hc_owed.proofs.owed.Owed.change.Goals as goal
 
 pub clear-requires-clause-inside : goal.clear-requires-clause-inside

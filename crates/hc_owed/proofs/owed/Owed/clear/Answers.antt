@@ -1,9 +1,6 @@
 use Rattle.std.proofs.Common.{rules}
-use Rattle.hc_owed.proofs.Lists.{length-changed, length-filled}
+use Rattle.hc_plan.proofs.lemmas.Replaced.{length-changed, length-filled}
 use Rattle.hc_owed.proofs.owed.Owed.clear.Goals as goal
-
-pub put_block-requires : goal.put_block-requires
-put_block-requires c = search (rules, length-filled)
 
 pub learn-requires : goal.learn-requires
 learn-requires c = search (rules, length-filled)

@@ -1,5 +1,5 @@
 use Rattle.std.proofs.Common.{rules}
-use Rattle.hc_owed.proofs.Lists.{length-changed}
+use Rattle.hc_plan.proofs.lemmas.Replaced.{length-changed}
 use Rattle.hc_owed.proofs.owed.Owed.forget_at.Goals as goal
 
 pub judge-requires : goal.judge-requires

@@ -1,25 +1,24 @@
 use Rattle.std.proofs.Common.{◌≡◌, ◌<◌, ◌/◌, ◌%◌, ℕ, None, Some, Option, length, refl, sym, ap, ◌∙◌, arith}
 use Rattle.std.specs.Prelude.{option_map, slice_get}
 use Rattle.std.proofs.lemmas.List.{length-map}
-use Rattle.std.proofs.lemmas.Option.{same_Some, slice_get-map, slice_get_read}
+use Rattle.std.proofs.lemmas.Option.{same_Some, slice_get_read}
 use Rattle.hc_registers.specs.Blocks.{LineBlock, RegisterBlock}
-use Rattle.hc_registers.specs.RankPlaces.{places}
 use Rattle.hc_plan.proofs.lemmas.PlaceNames.{name-at}
-use Rattle.hc_owed.specs.RegisterState.{RegisterState, block_in}
+use Rattle.hc_records.specs.Line.{State}
+use Rattle.hc_plan.specs.RegisterBlocks.{blocks_by_rank, has_at}
+use Rattle.hc_plan.proofs.lemmas.StoredBlocks.{has-block}
+use Rattle.hc_owed.specs.RegisterState.{RegisterState}
 use Rattle.hc_owed.specs.declared.owed.OwedBlock.{OwedBlock}
 use Rattle.hc_owed.proofs.owed.Owed.found_at.Goals as goal
 
 pub returns-in_err-block : goal.returns-in_err-block
-returns-in_err-block c = λ known state block is.
-    let place = c.args.place in
-    let own = ap (λ (b : RegisterState). slice_get b.blocks place) is.right ∙ slice_get-map block_in (places state) place ∙ ap (option_map block_in) is.is_placed in
-    let no : None ≡ Some block.block = same_Some None (Some block.block) (sym c.in_err-block.ensures ∙ own) in cc
+returns-in_err-block c = λ known state block same is.
+    let no : None ≡ Some block.block = c.in_err-block.ensures ∙ ap (λ (s : State). has_at (blocks_by_rank s.groups) c.args.place) same ∙ has-block state c.args.place block is.is_placed in cc
 
 pub returns : goal.returns
-returns c = λ known state block is.
+returns c = λ known state block plan is.
     let place = c.args.place in
-    let own = ap (λ (b : RegisterState). slice_get b.blocks place) is.right ∙ slice_get-map block_in (places state) place ∙ ap (option_map block_in) is.is_placed in
-    let same : Some c.in_ok-block.block ≡ Some block.block = same_Some (Some c.in_ok-block.block) (Some block.block) (sym c.in_ok-block.ensures ∙ own) in
+    let same : Some c.in_ok-block.block ≡ Some block.block = c.in_ok-block.ensures ∙ ap (λ (s : State). has_at (blocks_by_rank s.groups) place) plan ∙ has-block state place block is.is_placed in
     let name = name-at state place block is.is_placed in
     let items = c.self.inside.stations.items in
     let known = ap (λ (b : RegisterState). length b.known) c.self.view_is in

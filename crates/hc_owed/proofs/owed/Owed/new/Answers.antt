@@ -6,9 +6,8 @@ use Rattle.hc_records.specs.Line.{groups_of}
 use Rattle.hc_records.specs.Project.{slaves_of}
 use Rattle.hc_records.proofs.lemmas.Projects.{project-few}
 use Rattle.hc_registers.specs.Blocks.{RegisterBlock}
-use Rattle.hc_registers.specs.RankPlaces.{places, stations}
+use Rattle.hc_registers.specs.RankPlaces.{stations}
 use Rattle.hc_registers.proofs.lemmas.RanksStanding.{length-places}
-use Rattle.hc_owed.specs.RegisterState.{block_in}
 use Rattle.hc_owed.specs.Opening.{declared_flags}
 use Rattle.hc_owed.proofs.Opened.{register_state_from, length-copies, length-declared, none-bytes, opened-right}
 use Rattle.hc_owed.proofs.owed.Owed.new.Goals as goal
@@ -22,16 +21,8 @@ counted c = ap (λ (list : List ℕ). length list) (named c) ∙ length-map (sla
 flagged : (c : goal.In_ok-owed) → c.in_ok-owed.owed.list ≡ declared_flags c.args.plan.now.groups
 flagged c = c.in_ok-owed.ensures ∙ ap declared_flags c.groups-2.ensures.value
 
-own-length : (c : goal.In_ok-owed) → length c.in_ok-blocks.blocks.items ≡ 16 * length c.in_ok-stations.stations.items
-own-length c =
-    let plan = c.args.plan.now in
-    let own = ap length c.in_ok-blocks.ensures ∙ length-map (places plan) block_in in
-    let size = length-places plan in
-    let count = counted c in
-    omega (arith, own, size, count)
-
 pub invariant_of-result : goal.invariant_of-result
-invariant_of-result c = search (rules, counted, length-copies, flagged, length-declared, project-few, own-length)
+invariant_of-result c = search (rules, counted, length-copies, flagged, length-declared, project-few)
 
 pub returns : goal.returns
 returns c =
@@ -40,11 +31,9 @@ returns c =
     let n = 16 * c.len-places.result in
     let count = counted c in
     let size = length-places plan in
-    let blocks = map block_in (places plan) in
-    ap (λ (b : List (Option RegisterBlock)). register_state_from b (bytes c.in_ok-known.known.items) c.in_ok-owed.owed.list c.in_ok-stations.stations.items) c.in_ok-blocks.ensures
-    ∙ ap (λ (k : List (Option (List ℕ))). register_state_from blocks k c.in_ok-owed.owed.list c.in_ok-stations.stations.items) (ap bytes c.in_ok-known.ensures ∙ none-bytes n)
-    ∙ ap (λ (o : List Bool). register_state_from blocks (replicate n None) o c.in_ok-stations.stations.items) (flagged c)
-    ∙ ap (register_state_from blocks (replicate n None) (declared_flags plan.groups)) (named c)
+    ap (λ (k : List (Option (List ℕ))). register_state_from k c.in_ok-owed.owed.list c.in_ok-stations.stations.items) (ap bytes c.in_ok-known.ensures ∙ none-bytes n)
+    ∙ ap (λ (o : List Bool). register_state_from (replicate n None) o c.in_ok-stations.stations.items) (flagged c)
+    ∙ ap (register_state_from (replicate n None) (declared_flags plan.groups)) (named c)
     ∙ opened-right plan n (omega (arith, count, size, c.len-places.ensures))
 
 pub overflow_mul-places : goal.overflow_mul-places
@@ -63,20 +52,6 @@ declared_flags-requires-clause-places c =
 
 pub declared_flags-requires-clause-low : goal.declared_flags-requires-clause-low
 declared_flags-requires-clause-low c =
-    let count = ap length c.in_ok-stations.ensures ∙ length-map (slaves_of (groups_of c.groups.result.now)) (λ slave. slave.station)
-    ∙ ap (λ (groups : List Declared). length (slaves_of (groups_of groups))) c.groups.ensures.value in
-    let few = project-few (groups_of c.args.plan.now.groups) c.groups.ensures.unchanged in
-    omega (arith, count, few, c.len-places.ensures)
-
-pub own_blocks-requires-clause-all : goal.own_blocks-requires-clause-all
-own_blocks-requires-clause-all c =
-    let count = ap length c.in_ok-stations.ensures ∙ length-map (slaves_of (groups_of c.groups.result.now)) (λ slave. slave.station)
-    ∙ ap (λ (groups : List Declared). length (slaves_of (groups_of groups))) c.groups.ensures.value in
-    let size = length-places c.args.plan.now in
-    omega (arith, count, size, c.len-places.ensures)
-
-pub own_blocks-requires-clause-low : goal.own_blocks-requires-clause-low
-own_blocks-requires-clause-low c =
     let count = ap length c.in_ok-stations.ensures ∙ length-map (slaves_of (groups_of c.groups.result.now)) (λ slave. slave.station)
     ∙ ap (λ (groups : List Declared). length (slaves_of (groups_of groups))) c.groups.ensures.value in
     let few = project-few (groups_of c.args.plan.now.groups) c.groups.ensures.unchanged in

@@ -12,13 +12,10 @@ returns c =
     let bytes : List (Option RegisterBlock) → List (Option (List ℕ)) = λ known. map (λ one. option_map (λ block. block.bytes) one) known in
     let added = ap (λ (room : OwedRoom). room.added) c.room.view_is in
     let n = 16 * length c.args.room.added in
-    let more : List (Option RegisterBlock) = inside.blocks.items ++ replicate n None in
     let places : 16 * c.len-places.result ≡ n = omega (arith, c.len-places.ensures, c.room.inside.added.ok.0, ap length added) in
-    let blocks = c.add_nothing.ensures ∙ ap (λ (k : ℕ). inside.blocks.items ++ replicate k None) places in
-    let known = ap bytes c.add_nothing-2.ensures ∙ map-append (λ one. option_map (λ block. block.bytes) one) inside.known.items (replicate (16 * c.len-places.result) None) in
+    let known = ap bytes c.add_nothing.ensures ∙ map-append (λ one. option_map (λ block. block.bytes) one) inside.known.items (replicate (16 * c.len-places.result) None) in
     let empty : bytes (replicate (16 * c.len-places.result) None) ≡ replicate n None = none-bytes (16 * c.len-places.result) ∙ ap (λ (k : ℕ). replicate k None) places in
-    ap (λ (b : List (Option RegisterBlock)). register_state_from b (bytes c.add_nothing-2.new.list.items) c.add_cleared.new.self.list c.add_stations.new.stations.items) blocks
-    ∙ ap (λ (k : List (Option (List ℕ))). register_state_from more k c.add_cleared.new.self.list c.add_stations.new.stations.items) (known ∙ ap (λ (l : List (Option (List ℕ))). bytes inside.known.items ++ l) empty)
-    ∙ ap (λ (o : List Bool). register_state_from more (bytes inside.known.items ++ replicate n None) o c.add_stations.new.stations.items) (c.add_cleared.ensures ∙ ap (λ (k : ℕ). inside.owed.list ++ replicate k false) places)
-    ∙ ap (λ (l : List ℕ). register_state_from more (bytes inside.known.items ++ replicate n None) (inside.owed.list ++ replicate n false) l) (c.add_stations.ensures ∙ ap (λ (l : List ℕ). inside.stations.items ++ l) added)
+    ap (λ (k : List (Option (List ℕ))). register_state_from k c.add_cleared.new.self.list c.add_stations.new.stations.items) (known ∙ ap (λ (l : List (Option (List ℕ))). bytes inside.known.items ++ l) empty)
+    ∙ ap (λ (o : List Bool). register_state_from (bytes inside.known.items ++ replicate n None) o c.add_stations.new.stations.items) (c.add_cleared.ensures ∙ ap (λ (k : ℕ). inside.owed.list ++ replicate k false) places)
+    ∙ ap (λ (l : List ℕ). register_state_from (bytes inside.known.items ++ replicate n None) (inside.owed.list ++ replicate n false) l) (c.add_stations.ensures ∙ ap (λ (l : List ℕ). inside.stations.items ++ l) added)
     ∙ ap (registers_widened c.args.room.added) c.self.view_is

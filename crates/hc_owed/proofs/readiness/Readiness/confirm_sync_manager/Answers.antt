@@ -3,7 +3,7 @@ use Rattle.hc_records.specs.Lists.{changed_at}
 use Rattle.hc_owed.specs.declared.area.JudgedArea.{JudgedArea}
 use Rattle.hc_owed.specs.Areas.{sync_manager_confirmed}
 use Rattle.hc_owed.proofs.Counting.{area-set, can-put-at}
-use Rattle.hc_owed.proofs.Lists.{set-changed}
+use Rattle.hc_plan.proofs.lemmas.Replaced.{set-changed}
 use Rattle.hc_owed.proofs.readiness.Readiness.confirm_sync_manager.Goals as goal
 
 pub confirm_sync_manager-requires : goal.confirm_sync_manager-requires

@@ -6,9 +6,9 @@ use Rattle.hc_registers.specs.RankDifferences.{block_place}
 use Rattle.hc_owed.specs.declared.area.JudgedArea.{JudgedArea}
 use Rattle.hc_owed.specs.ChangedTasks.{moves_task}
 use Rattle.hc_owed.specs.TaskSets.{has_task}
-use Rattle.hc_owed.proofs.Lists.{length-changed}
+use Rattle.hc_plan.proofs.lemmas.Replaced.{length-changed}
 use Rattle.hc_owed.proofs.MovedTasks.{after-move}
-use Rattle.hc_owed.proofs.Opened.{item-cons}
+use Rattle.hc_plan.proofs.lemmas.Replaced.{item-cons}
 use Rattle.hc_owed.proofs.lemmas.TaskSums.{more-any, none-any, whole-any}
 use Rattle.hc_owed.proofs.readiness.Readiness.move_blocks.Goals as goal
 

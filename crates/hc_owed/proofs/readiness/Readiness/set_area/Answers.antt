@@ -5,7 +5,7 @@ use Rattle.hc_records.specs.Lists.{changed_at}
 use Rattle.hc_owed.specs.declared.area.JudgedArea.{JudgedArea}
 use Rattle.hc_owed.specs.Tally.{Tallies}
 use Rattle.hc_owed.proofs.Counting.{area-put, can-put}
-use Rattle.hc_owed.proofs.Lists.{length-changed, set-changed}
+use Rattle.hc_plan.proofs.lemmas.Replaced.{length-changed, set-changed}
 use Rattle.hc_owed.proofs.readiness.Readiness.set_area.Goals as goal
 
 -- the area that was at the index

@@ -3,7 +3,7 @@ use Rattle.hc_records.specs.Lists.{changed_at}
 use Rattle.hc_owed.specs.declared.area.JudgedArea.{JudgedArea}
 use Rattle.hc_owed.specs.Areas.{area_written}
 use Rattle.hc_owed.proofs.Counting.{area-set, written-put}
-use Rattle.hc_owed.proofs.Lists.{set-changed}
+use Rattle.hc_plan.proofs.lemmas.Replaced.{set-changed}
 use Rattle.hc_owed.proofs.readiness.Readiness.write_area.Goals as goal
 
 pub returns : goal.returns

@@ -1,4 +1,4 @@
-use Rattle.std.proofs.Common.{◌≡◌, ◌∙◌, List, None, ap, arith, sym, refl}
+use Rattle.std.proofs.Common.{◌≡◌, ◌∙◌, List, None, ap, arith, length, sym, refl}
 use Rattle.std.proofs.lemmas.Result.{err_from_is_err_and}
 use Rattle.hc_records.specs.declared.records.Declared.{Declared}
 use Rattle.hc_records.specs.declared.records.Group.{Group}
@@ -47,6 +47,7 @@ returns-clause-ready c =
       slaves = omega (arith, many, c.len-2.ensures);
       list = c.in_ok-room_for.ensures;
       index = c.in_ok-room_for-2.ensures groups c.requires.index;
+      blocks = let size = ap length c.requires.blocks in let room = c.in_ok-room_for-3.ensures in omega (arith, size, room, c.len-3.ensures);
       trees = own-trees c.args.cuts.now groups _ _ c.requires.cuts c.in_ok-widened.ensures;
     }
 
@@ -71,3 +72,16 @@ returns-in_err-group-clause-refused c =
     let p = err_from_is_err_and c.from_residual.result c.from_residual.ensures.1 in
     rw (p.1, p.2) (λ other.
     ap (λ (groups : List Declared). lowest (declaring_faults groups c.args.group.now)) (sym (c.of-indexed.ensures ∙ c.as_slice.ensures)) ∙ c.in_err-group.ensures.refused other)
+
+pub room_for-requires-3 : goal.room_for-requires-3
+room_for-requires-3 c =
+    let groups = c.args.groups.now in
+    let group = c.in_ok-group.group in
+    let none = free c.as_slice.result.now groups c.of-indexed.result c.args.group.now group c.as_slice.ensures c.of-indexed.ensures c.in_ok-group.ensures.copy c.in_ok-group.ensures.free in
+    let few = free-few groups group none in
+    omega (arith, few, c.len-3.ensures)
+
+pub returns-in_err-room_for-3-clause-refused : goal.returns-in_err-room_for-3-clause-refused
+returns-in_err-room_for-3-clause-refused c =
+    let p = err_from_is_err_and c.from_residual-in_err-room_for-3.result c.from_residual-in_err-room_for-3.ensures.1 in
+    rw (p.1, p.2) (λ other. absurd (other refl))

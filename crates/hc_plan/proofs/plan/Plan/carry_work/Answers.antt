@@ -13,4 +13,4 @@ invariant_of-self c =
     let ready = subst (λ (w : Work). IsWorkReady c.args.self.now c.args.report.now w) c.in-NewGroup.is c.requires.ready in
     let can = subst (λ (s : State). CanDeclare s.groups declaration) (sym c.self.view_is) ready in
     let after = declared-line groups c.carry_out.new.groups declaration can c.carry_out.ensures.groups c.self.inside.places c.self.invariant.1 c.self.invariant.2 in
-    (after.project, after.fits, after.is_placed, c.carry_out.ensures.cuts, c.carry_out.ensures.index)
+    (after.project, after.fits, after.is_placed, c.carry_out.ensures.cuts, c.carry_out.ensures.index, c.carry_out.ensures.blocks)

@@ -15,6 +15,8 @@ use Rattle.hc_plan.specs.inner.Prepared.{IsLineReady}
 use Rattle.hc_plan.proofs.Editing.{old-groups}
 use Rattle.hc_groups.specs.Rows.{ChangesRow}
 use Rattle.hc_changes.proofs.lemmas.EditedLines.{change-edited_line}
+use Rattle.hc_plan.specs.RegisterBlocks.{blocks_by_rank}
+use Rattle.hc_plan.proofs.Carrying.{line-stored}
 use Rattle.hc_plan.proofs.plan.Plan.change_line.Goals as goal
 
 -- the new groups are given by the change: a tactic would open the faults and the eight tasks of both
@@ -48,6 +50,11 @@ follow-requires-clause-project c =
     let ready = subst (λ (s : State). IsLineReady s c.args.report.now c.args.work) (sym c.self.view_is) c.requires.ready in
     subst (λ (g : List Declared). lowest_fault (groups_of (changed_groups c.args.work.change g)) ≡ None) (sym c.as_slice-2.ensures) ready.project
 
+pub change-requires : goal.change-requires
+change-requires c = record {
+  edited = line-stored c.args.self.now c.args.report.now c.args.work c.args.blocks.now c.self.inside.blocks c.gone_with.result c.requires (c.self.invariant.5 ∙ ap (λ (s : State). blocks_by_rank s.groups) c.self.view_is) c.gone_with.ensures;
+}
+
 pub invariant_of-self : goal.invariant_of-self
 invariant_of-self c =
     let change = c.args.work.change in
@@ -62,6 +69,9 @@ invariant_of-self c =
           ∙ ap (λ (g : List Declared). table_of (line_from 1 g)) (sym same),
       c.apply_known_widths.ensures ∙ ap (λ (g : List Declared). line_cuts (areas_by_rank g)) new,
       subst (λ (g : List Declared). IsIndexOf g c.follow.new.self) (ap (changed_groups change) c.as_slice-2.ensures ∙ sym made) c.follow.ensures,
+      c.change.ensures
+          (line-stored c.args.self.now c.args.report.now c.args.work c.args.blocks.now c.self.inside.blocks c.gone_with.result c.requires (c.self.invariant.5 ∙ ap (λ (s : State). blocks_by_rank s.groups) c.self.view_is) c.gone_with.ensures)
+          ∙ ap blocks_by_rank (sym same),
     )
 
 pub returns : goal.returns

@@ -18,6 +18,7 @@ use Rattle.hc_plan.specs.declared.work.LineWork.{LineWork}
 use Rattle.hc_plan.specs.declared.work.Work.TheVariants.{NewLine}
 use Rattle.hc_plan.specs.inner.Prepared.{IsWorkReady, prepared_of}
 use Rattle.hc_plan.specs.Prepared.{IsPrepared}
+use Rattle.hc_plan.specs.RegisterBlocks.{blocks_by_rank}
 use Rattle.hc_plan.proofs.Editing.{judged, old-groups}
 use Rattle.hc_plan.proofs.Preparing.{is-prepared, is-ready, makes}
 use Rattle.hc_plan.proofs.plan.Plan.prepare_change.Goals as goal
@@ -113,11 +114,17 @@ work_out-requires-clause-trees c =
     ∙ ap (λ (g : List Declared). line_cuts (areas_by_rank g))
     (sym (old-groups c.of-edited_line.result c.in_ok-change.change c.of-groups.result c.self.inside.groups c.of-edited_line.ensures (c.of-groups.ensures ∙ c.as_slice.ensures)))
 
+pub work_out-requires-clause-stored : goal.work_out-requires-clause-stored
+work_out-requires-clause-stored c =
+    c.self.invariant.5
+    ∙ ap blocks_by_rank
+    (sym (old-groups c.of-edited_line.result c.in_ok-change.change c.of-groups.result c.self.inside.groups c.of-edited_line.ensures (c.of-groups.ensures ∙ c.as_slice.ensures)))
+
 pub invariant_of-self : goal.invariant_of-self
-invariant_of-self c = (c.self.invariant.0, c.self.invariant.1, c.self.invariant.2, c.work_out.ensures.unchanged ∙ c.self.invariant.3, c.self.invariant.4)
+invariant_of-self c = (c.self.invariant.0, c.self.invariant.1, c.self.invariant.2, c.work_out.ensures.unchanged ∙ c.self.invariant.3, c.self.invariant.4, c.self.invariant.5)
 
 pub invariant_of-self-2 : goal.invariant_of-self-2
-invariant_of-self-2 c = (c.self.invariant.0, c.self.invariant.1, c.self.invariant.2, c.work_out.ensures.unchanged ∙ c.self.invariant.3, c.self.invariant.4)
+invariant_of-self-2 c = (c.self.invariant.0, c.self.invariant.1, c.self.invariant.2, c.work_out.ensures.unchanged ∙ c.self.invariant.3, c.self.invariant.4, c.self.invariant.5)
 
 pub returns-in_err-worked-clause-unchanged : goal.returns-in_err-worked-clause-unchanged
 returns-in_err-worked-clause-unchanged c = c.self.view_is

@@ -4,7 +4,7 @@ use Rattle.std.proofs.lemmas.Bool.{eq-eqb, ne_eqb}
 use Rattle.hc_records.specs.declared.faults.EditFault.TheVariants.{EpochsSpent}
 use Rattle.hc_records.specs.declared.limits.TheConstants.{LAST_EPOCH}
 use Rattle.hc_records.specs.declared.records.Declared.{Declared}
-use Rattle.hc_records.specs.Edits.{edited, groups_after}
+use Rattle.hc_records.specs.Edits.{declares, edited, groups_after}
 use Rattle.hc_records.specs.Line.{State, groups_of}
 use Rattle.hc_records.specs.Project.{lowest_fault}
 use Rattle.hc_registers.specs.Ranked.{RankedBlock}
@@ -61,7 +61,7 @@ invariant_of-result c =
     (moving-declares groups edit moves) own made leads same named nothing in
     let blocks = subst (λ (bs : List RankedBlock). IsPrepared (prepared_of old (NewTask change) report bs)) (sym c.new.ensures.items) prepared in
     subst (λ (s : State). IsPrepared (prepared_of s (NewTask change) report c.new.result.items) × IsWorkReady s report (NewTask change)) (c.self.view_is ∙ sym c.of-was.ensures)
-    (blocks, record { made = ap (change_by groups) named ∙ made; project = is; same = same })
+    (blocks, record { made = ap (change_by groups) named ∙ made; changes = ap declares named ∙ moving-declares groups edit moves; project = is; same = same })
 
 pub returns-clause-prepared : goal.returns-clause-prepared
 returns-clause-prepared c = (invariant_of-result c).0

@@ -5,8 +5,8 @@ use Rattle.hc_sendings.proofs.awaited.Awaited.end.Goals as goal
 
 pub returns : goal.returns
 returns c =
-    all-ended c.self.inside.last_sent c.args.serial c.self.inside.frames.items c.end_frame.new.frames.items c.self.inside.writes c.end.new.self c.self.inside.forgotten
-    c.end_frame.ensures.frames c.end.ensures
+    all-ended c.self.inside.last_sent c.args.serial c.self.inside.frames.items c.end_frame.new.frames.items c.self.inside.writes c.end.new.self c.self.inside.further c.end-2.new.self c.self.inside.forgotten
+    c.end_frame.ensures.frames c.end.ensures c.end-2.ensures
     ∙ ap (ended c.args.serial) c.self.view_is
 
 pub invariant_of-self : goal.invariant_of-self

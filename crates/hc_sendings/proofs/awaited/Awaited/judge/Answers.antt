@@ -38,8 +38,7 @@ returns-then-branch-clause-answer c =
     ∙ ap (λ (w : Waiting). find (λ (one : AwaitedFrame). one.serial == serial) w.frames) c.self.view_is in
     let none : found_write serial c.args.self.now ≡ None =
     no-blocks serial c.args.self.now (sym (c.in_default.ensures.blocks
-    ∙ ap (λ (n : ℕ). option_map (λ (one : AwaitedWrite). one.blocks) (find (λ (one : AwaitedWrite). one.serial == n) c.self.inside.writes)) c.serial.ensures.value
-    ∙ ap (λ (w : Waiting). option_map (λ (one : AwaitedWrite). one.blocks) (found_write serial w)) c.self.view_is)) in
+    ∙ ap (λ (n : ℕ). option_map (λ (one : AwaitedWrite). one.blocks) (found_write n c.args.self.now)) c.serial.ensures.value)) in
     let whole : Some c.judge_parts.new.outcomes.items ≡ outcomes_in (frame_due (line c.args.plan.now) (frame_by last_sent frame)) c.args.arrival.now.parts =
     ap (λ (b : Bool). cond b (Some c.judge_parts.new.outcomes.items) None) (sym c.if-branch.true) ∙ c.in_ok-judge_parts.ensures.outcomes in
     frame-answer_given (line c.args.plan.now) (frame_by last_sent frame) c.args.arrival.now c.judge_parts.new.outcomes.items c.in-Some-found.ensures.awaited_still whole
@@ -51,7 +50,6 @@ returns-in-Some-clause-answer c =
     let blocks : List AwaitedBlock = c.in-Some.blocks.now in
     let there : option_map (λ (one : AwaitedWrite). one.blocks) (found_write serial c.args.self.now) ≡ Some blocks =
     sym (c.in-Some.ensures.blocks
-    ∙ ap (λ (n : ℕ). option_map (λ (one : AwaitedWrite). one.blocks) (find (λ (one : AwaitedWrite). one.serial == n) c.self.inside.writes)) c.serial.ensures.value
-    ∙ ap (λ (w : Waiting). option_map (λ (one : AwaitedWrite). one.blocks) (found_write serial w)) c.self.view_is) in
+    ∙ ap (λ (n : ℕ). option_map (λ (one : AwaitedWrite). one.blocks) (found_write n c.args.self.now)) c.serial.ensures.value) in
     subst (λ (judged : List Judged). IfOk c.judge_write.result (λ arrived. arrived_answer arrived c.judge_write.new.outcomes.items ≡ judged_answer judged))
     (judged-blocks (line c.args.plan.now) c.args.self.now c.args.arrival.now blocks there) c.judge_write.ensures.answer

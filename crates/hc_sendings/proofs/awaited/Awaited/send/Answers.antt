@@ -73,8 +73,8 @@ returns-clause-sent c =
     let after_it : All (After more) first = after_it-or (last_sent_of before) stored first more c.make_way.ensures.frames awaited in
     let one : IsPruned (last_sent_of before) stored first = pruned-or (last_sent_of before) stored first c.make_way.ensures.frames in
     let two : IsPruned (last_sent_of now) first second = pruned-or (last_sent_of now) first second c.make_room.ensures.frames in
-    ap (λ (frames : List StoredFrame). record { frames = awaited_at (last_sent_of now) frames; writes = c.self.inside.writes; forgotten = c.self.inside.forgotten }) c.add_all.ensures.frames
-    ∙ joined-answer_given before now stored first second more c.self.inside.writes c.self.inside.forgotten are c.note_all.ensures.noted one after_it two c.requires.named c.requires.after_it.ascend
+    ap (λ (frames : List StoredFrame). record { frames = awaited_at (last_sent_of now) frames; writes = c.self.inside.writes; further = c.self.inside.further; forgotten = c.self.inside.forgotten }) c.add_all.ensures.frames
+    ∙ joined-answer_given before now stored first second more c.self.inside.writes c.self.inside.further c.self.inside.forgotten are c.note_all.ensures.noted one after_it two c.requires.named c.requires.after_it.ascend
     ∙ ap (λ (w : Waiting). all_sent w more) c.self.view_is
 
 pub returns-clause-few : goal.returns-clause-few

@@ -1,0 +1,201 @@
+//! The frames of further register blocks that are awaited, beside the frames of the first owed ones. `Awaited` keeps them.
+ghost use Rattle.std.specs.List.{list_any};
+ghost use Rattle.std.specs.Prelude.{◌≡◌, ◌==◌, ◌<◌, ◌≤◌, [], IfOk, IfSome, OnOk, Some, find, length, map, option_map, slice_get, vec_capacity, vec_len};
+ghost use Rattle.hc_events.specs.declared.sending.TheConstants.{FRAME_BLOCKS};
+ghost use Rattle.hc_sendings.specs.Slots.{in_slots, none_of, writes_without};
+ghost use Rattle.hc_sendings.specs.Waiting.{awaited_block, carries_newest, left_after, left_forgotten};
+
+use crate::write_frames::PlacedBlock;
+use crate::writes::{AwaitedBlock, Write};
+use std::alloc::{AllocError, Global};
+use std::marker::Model;
+
+/// The number of further frames that can be awaited at once without an allocation: their memory is allocated at the opening.
+const READY_FRAMES: usize = 2;
+
+/// None of the writes is awaited any more.
+fn clear_each(writes: &mut [Write])
+    ensures { writes.new ≡ map none_of writes.old }
+{
+    for write in writes.iter_mut() {
+        write.clear();
+    }
+}
+
+/// Blocks are sent in a later frame: of these writes those go that are the newest of no other block, or all, if a slave was
+/// forgotten since the last write.
+fn retire_each(writes: &mut [Write], is_over: bool, again: &[PlacedBlock])
+    ensures { writes.new ≡ map (left_after (map awaited_block again.now) is_over) writes.old }
+{
+    for write in writes.iter_mut() {
+        write.retire(is_over, again);
+    }
+}
+
+/// The slave with a station address is forgotten: those writes go that are the newest of no block of another slave.
+fn forget_each(writes: &mut [Write], station: u16)
+    ensures { writes.new ≡ map (left_forgotten station) writes.old }
+{
+    for write in writes.iter_mut() {
+        write.forget(station);
+    }
+}
+
+/// The write with a serial, if there is one, was answered, and goes.
+fn end_each(writes: &mut [Write], serial: u64)
+    ensures { writes.new ≡ map (writes_without serial) writes.old }
+{
+    for write in writes.iter_mut() {
+        write.end(serial);
+    }
+}
+
+/// The index of a slot whose write is awaited no longer; none if each is awaited.
+fn free_slot(writes: &[Write]) -> Option<usize>
+    ensures { IfSome result (λ index. slice_get writes.now index ≡ Some []) }
+{
+    for index in 0..writes.len() {
+        if writes[index].is_none() {
+            return Some(index);
+        }
+    }
+    None
+}
+
+/// Takes out a slot whose write is awaited no longer, or makes one. There is room in the list then. `AllocError` if an
+/// allocation failed: no write is awaited less.
+fn take_slot(writes: &mut Vec<Write>, alloc: Global) -> Result<Write, AllocError>
+    ensures empty { IfOk result (λ slot. slot ≡ []) }
+    ensures room { OnOk result (vec_len writes.new < vec_capacity writes.new) }
+    ensures unchanged { in_slots writes.new.items ≡ in_slots writes.old.items }
+{
+    if let Some(index) = free_slot(writes.as_slice()) {
+        return Ok(writes.remove(index));
+    }
+    writes.reserve(1)?;
+    Write::none(alloc)
+}
+
+/// The blocks of the write with a serial among these.
+fn find_in(writes: &[Write], serial: u64) -> Option<&[AwaitedBlock]>
+    ensures blocks { option_map (λ blocks. blocks.now) result ≡ option_map (λ write. write.blocks) (find (λ write. write.serial == serial) (in_slots writes.now)) }
+    ensures few { IfSome result (λ blocks. length blocks.now ≤ FRAME_BLOCKS) }
+{
+    for write in writes {
+        if let Some(blocks) = write.find(serial) {
+            return Some(blocks);
+        }
+    }
+    None
+}
+
+/// Whether one of these carries the newest write of the block with a station address and a number.
+fn any_carries(writes: &[Write], station: u16, number: u8) -> bool
+    ensures { result ≡ list_any (carries_newest station number) (in_slots writes.now) }
+{
+    for write in writes {
+        if write.carries(station, number) {
+            return true;
+        }
+    }
+    false
+}
+
+/// The frames of further register blocks that are awaited, in the order in which they were sent. Contracts see the list of
+/// them. A slot whose write is awaited no longer is used again.
+#[derive(Debug, Drop)]
+pub(crate) struct FurtherWrites {
+    writes: Vec<Write>,
+}
+
+impl Model for FurtherWrites {
+    ghost use Rattle.std.specs.Prelude.{List};
+    ghost use Rattle.hc_sendings.specs.Slots.{in_slots};
+    ghost use Rattle.hc_sendings.specs.Waiting.{AwaitedWrite};
+
+    ghost Value = { List AwaitedWrite };
+
+    ghost view = { λ further. in_slots further.writes.items };
+}
+
+impl FurtherWrites {
+    ghost use Rattle.std.specs.List.{list_any};
+    ghost use Rattle.std.specs.Prelude.{◌≡◌, ◌==◌, ◌≤◌, [], ◌∷◌, ◌++◌, IfOk, IfSome, OnErr, OnOk, filter, find, length, map, not, option_map};
+    ghost use Rattle.hc_events.specs.declared.sending.TheConstants.{FRAME_BLOCKS};
+    ghost use Rattle.hc_sendings.specs.Waiting.{awaited_block, carries_newest, left_after, left_forgotten};
+
+    /// None is awaited. It makes the room for two frames: `AllocError` if an allocation failed.
+    pub(crate) fn new(alloc: Global) -> Result<FurtherWrites, AllocError>
+        ensures { IfOk result (λ writes. writes ≡ []) }
+    {
+        let mut writes = Vec::with_capacity(alloc, READY_FRAMES)?;
+        writes.push_reserved(Write::none(alloc)?);
+        writes.push_reserved(Write::none(alloc)?);
+        Ok(FurtherWrites { writes })
+    }
+
+    /// None is awaited any more.
+    pub(crate) fn clear(&mut self)
+        ensures { self.new ≡ [] }
+    {
+        clear_each(&mut self.writes);
+    }
+
+    /// Blocks are sent in a later frame, of the first owed ones or of further ones: of these writes those go that are the
+    /// newest of no other block, or all, if a slave was forgotten since the last write.
+    pub(crate) fn retire(&mut self, is_over: bool, again: &[PlacedBlock])
+        ensures { self.new ≡ left_after (map awaited_block again.now) is_over self.old }
+    {
+        retire_each(&mut self.writes, is_over, again);
+    }
+
+    /// A further frame of these blocks, 74 at most, is sent after the others. Others go that are the newest of no other
+    /// block; all go, if a slave was forgotten since the last write. It allocates only if more frames are awaited than ever
+    /// before, and more than two. `AllocError` if an allocation failed: the writes are as before.
+    pub(crate) fn send(
+        &mut self,
+        alloc: Global,
+        is_over: bool,
+        serial: u64,
+        placed: &[PlacedBlock],
+    ) -> Result<(), AllocError>
+        requires few { length placed.now ≤ FRAME_BLOCKS }
+        ensures sent { OnOk result (self.new ≡ left_after (map awaited_block placed.now) is_over self.old ++ record { serial = serial; blocks = map awaited_block placed.now } ∷ []) }
+        ensures unchanged { OnErr result (self.new ≡ self.old) }
+    {
+        let mut slot = take_slot(&mut self.writes, alloc)?;
+        retire_each(&mut self.writes, is_over, placed);
+        slot.put(serial, placed);
+        self.writes.push_reserved(slot);
+        Ok(())
+    }
+
+    /// The slave with a station address is forgotten: those writes go that are the newest of no block of another slave.
+    pub(crate) fn forget(&mut self, station: u16)
+        ensures { self.new ≡ left_forgotten station self.old }
+    {
+        forget_each(&mut self.writes, station);
+    }
+
+    /// The write with a serial, if there is one, was answered, and goes.
+    pub(crate) fn end(&mut self, serial: u64)
+        ensures { self.new ≡ filter (λ write. not (write.serial == serial)) self.old }
+    {
+        end_each(&mut self.writes, serial);
+    }
+
+    /// The blocks of the write with a serial, in its order: 74 at most.
+    pub(crate) fn find(&self, serial: u64) -> Option<&[AwaitedBlock]>
+        ensures blocks { option_map (λ blocks. blocks.now) result ≡ option_map (λ write. write.blocks) (find (λ write. write.serial == serial) self.now) }
+        ensures few { IfSome result (λ blocks. length blocks.now ≤ FRAME_BLOCKS) }
+    {
+        find_in(self.writes.as_slice(), serial)
+    }
+
+    /// Whether one of them carries the newest write of the block with a station address and a number.
+    pub(crate) fn carries(&self, station: u16, number: u8) -> bool
+        ensures { result ≡ list_any (carries_newest station number) self.now }
+    {
+        any_carries(self.writes.as_slice(), station, number)
+    }
+}
