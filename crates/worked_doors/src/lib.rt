@@ -8,8 +8,6 @@ mod bitsum;
 #[cfg(test)]
 mod conductor;
 #[cfg(test)]
-mod core;
-#[cfg(test)]
 mod cuts;
 #[cfg(test)]
 mod events;
@@ -23,6 +21,8 @@ mod groups;
 mod images;
 #[cfg(test)]
 mod lend;
+#[cfg(test)]
+mod line_core;
 #[cfg(test)]
 mod machine;
 #[cfg(test)]
