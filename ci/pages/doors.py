@@ -6,7 +6,8 @@ from collections.abc import Iterator
 from findings import Finding
 from pages import Pages, blocks
 
-EXAMPLE = re.compile(r"crates/worked_doors/src/(?P<crate>\w+)\.rt")
+# The last word of a module is its crate's: `core` alone would be the name of a library.
+EXAMPLE = re.compile(r"crates/worked_doors/src/(?:[a-z_]+_)?(?P<crate>[a-z]+)\.rt")
 
 
 def check_doors(pages: Pages) -> Iterator[Finding]:
