@@ -45,7 +45,7 @@ impl Drop for Branch {
 /// Where a walk over rows is: the next row, a node that begins with it, that node's height above the
 /// last level, and how far a datagram is filled by the rows before.
 #[derive(Clone, Copy)]
-struct ArePlaced {
+struct Climbed {
     row: usize,
     node: usize,
     height: u32,
@@ -254,7 +254,7 @@ impl Branch {
 
     /// Fills a datagram with the nodes from a row on, each higher than the one before, that end by
     /// another row. From the first row on it fills nothing: the root begins with that row.
-    fn climb(&self, first: usize, end: usize, filled: Filled) -> ArePlaced
+    fn climb(&self, first: usize, end: usize, filled: Filled) -> Climbed
         requires branch { IsBranch self.now }
         requires order { first ≤ end }
         requires within { end ≤ length self.now.rows.items }
@@ -262,7 +262,7 @@ impl Branch {
         ensures { HasClimbed self.now first end filled result }
     {
         if first == 0 {
-            return ArePlaced {
+            return Climbed {
                 row: 0,
                 node: 1,
                 height: self.levels,
@@ -285,7 +285,7 @@ impl Branch {
             node /= 2;
             height += 1;
         }
-        ArePlaced {
+        Climbed {
             row,
             node,
             height,
@@ -295,11 +295,11 @@ impl Branch {
 
     /// Fills a datagram with the nodes from where a climb came to, each lower than the one before, up
     /// to the row by which they end.
-    fn descend(&self, from: ArePlaced, end: usize) -> Filled
+    fn descend(&self, from: Climbed, end: usize) -> Filled
         requires branch { IsBranch self.now }
         requires order { from.row ≤ end }
         requires within { end ≤ length self.now.rows.items }
-        requires is_placed { BeginsWithRow self.now.levels from.height from.node from.row }
+        requires begins { BeginsWithRow self.now.levels from.height from.node from.row }
         requires near { end < from.row + 2 ^ (from.height + 1) }
         requires there { (filled_with_areas from.filled (part self.now.dir self.now.rows.items from.row (end - from.row))).bit < 2 ^ 30 }
         ensures { result ≡ filled_with_areas from.filled (part self.now.dir self.now.rows.items from.row (end - from.row)) }
@@ -353,8 +353,8 @@ impl Branch {
             return self.filled_by_each(first, end, filled);
         }
         let head = self.filled_by_each(first, 8 * first_row, filled);
-        let are_placed = self.climb(first_row as usize, end_row as usize, head);
-        let rows = self.descend(are_placed, end_row as usize);
+        let climbed = self.climb(first_row as usize, end_row as usize, head);
+        let rows = self.descend(climbed, end_row as usize);
         self.filled_by_each(8 * end_row, end, rows)
     }
 

@@ -48,7 +48,7 @@ impl Project {
     /// Returns the declared groups, the mandatory one first.
     pub fn groups(&self) -> &[Group]
         ensures value { result.now ≡ self.now }
-        ensures unchanged { lowest_fault self.now ≡ None }
+        ensures project { lowest_fault self.now ≡ None }
         ensures inside { IsProjectInside self.now }
     {
         self.groups.as_slice()
@@ -57,7 +57,7 @@ impl Project {
     /// Returns the declared groups, and ends the project.
     pub fn into_groups(self) -> Items<Group>
         ensures value { result ≡ self }
-        ensures unchanged { lowest_fault self ≡ None }
+        ensures project { lowest_fault self ≡ None }
     {
         let Project { groups } = self;
         groups

@@ -19,7 +19,7 @@ returns-then-first-eq0 c =
     let wide = wider levels in
     let some = power-some levels in
     record {
-      is_placed = record { index = 0; high = omega arith; here = omega arith; first = omega arith };
+      begins = record { index = 0; high = omega arith; here = omega arith; first = omega arith };
       from = omega arith;
       within = omega arith;
       near = omega arith;
@@ -34,8 +34,8 @@ loop-height-init c = grind (arith, is_placed-leaf, no-rows)
 pub filled_by-so_far-requires-clause-node : goal.filled_by-so_far-requires-clause-node
 filled_by-so_far-requires-clause-node c =
     let branch = c.args.self.now in
-    let small = is_placed-small branch.levels c.loop-height.height c.loop-height.node c.loop-height.row c.requires.branch.low c.loop-height.invariant.is_placed in
-    let own = is_placed-node branch.levels c.loop-height.height c.loop-height.node c.loop-height.row c.loop-height.invariant.is_placed (omega arith) in
+    let small = is_placed-small branch.levels c.loop-height.height c.loop-height.node c.loop-height.row c.requires.branch.low c.loop-height.invariant.begins in
+    let own = is_placed-node branch.levels c.loop-height.height c.loop-height.node c.loop-height.row c.loop-height.invariant.begins (omega arith) in
     node-index branch c.loop-height.height c.loop-height.node c.requires.branch own
 
 pub filled_by-so_far-requires-clause-here : goal.filled_by-so_far-requires-clause-here
@@ -44,9 +44,9 @@ filled_by-so_far-requires-clause-here c = grind (arith, is_placed-small, rows-lo
 pub filled_by-so_far-requires-clause-there : goal.filled_by-so_far-requires-clause-there
 filled_by-so_far-requires-clause-there c =
     let branch = c.args.self.now in
-    let small = is_placed-small branch.levels c.loop-height.height c.loop-height.node c.loop-height.row c.requires.branch.low c.loop-height.invariant.is_placed in
+    let small = is_placed-small branch.levels c.loop-height.height c.loop-height.node c.loop-height.row c.requires.branch.low c.loop-height.invariant.begins in
     let inv = c.loop-height.invariant in
-    let own = is_placed-node branch.levels c.loop-height.height c.loop-height.node c.loop-height.row inv.is_placed (omega arith) in
+    let own = is_placed-node branch.levels c.loop-height.height c.loop-height.node c.loop-height.row inv.begins (omega arith) in
     let low = rows-low branch c.args.first c.loop-height.row c.args.end c.args.filled inv.from inv.within in
     let bit = ap (λ (r : Filled). r.bit) inv.so_far in
     read-low branch c.loop-height.height c.loop-height.node c.loop-height.so_far c.requires.branch own (omega arith)
@@ -54,7 +54,7 @@ filled_by-so_far-requires-clause-there c =
 pub loop-height-preserved : goal.loop-height-preserved
 loop-height-preserved c =
     let branch = c.args.self.now in
-    let small = is_placed-small branch.levels c.loop-height.height c.loop-height.node c.loop-height.row c.requires.branch.low c.loop-height.invariant.is_placed in
+    let small = is_placed-small branch.levels c.loop-height.height c.loop-height.node c.loop-height.row c.requires.branch.low c.loop-height.invariant.begins in
     let height = c.loop-height.height in
     let node = c.loop-height.node in
     let row = c.loop-height.row in
@@ -66,10 +66,10 @@ loop-height-preserved c =
       | then-node-eq1 w ↦
           let row-is : c.if-node-eq1.row ≡ row + 2 ^ height = let is = w.row-is in omega arith in
           let node-is = w.node-is in
-          let next = is_placed-next branch.levels height node row inv.is_placed in
-          let filled = taken branch height node c.args.first row c.args.filled c.loop-height.so_far w.filled_by-so_far.result c.requires.branch inv.is_placed from (omega arith) inv.so_far w.filled_by-so_far.ensures in
+          let next = is_placed-next branch.levels height node row inv.begins in
+          let filled = taken branch height node c.args.first row c.args.filled c.loop-height.so_far w.filled_by-so_far.result c.requires.branch inv.begins from (omega arith) inv.so_far w.filled_by-so_far.ensures in
           rw (row-is, node-is, w.so_far-is) (record {
-            is_placed = is_placed-up branch.levels height (node + 1) (row + 2 ^ height) less (omega arith) next;
+            begins = is_placed-up branch.levels height (node + 1) (row + 2 ^ height) less (omega arith) next;
             from = omega arith;
             within = omega arith;
             so_far = filled;
@@ -79,7 +79,7 @@ loop-height-preserved c =
           let row-is = w.row-is in
           let node-is = w.node-is in
           rw (row-is, node-is, w.so_far-is) (record {
-            is_placed = is_placed-up branch.levels height node row less even inv.is_placed;
+            begins = is_placed-up branch.levels height node row less even inv.begins;
             from = from;
             within = inv.within;
             so_far = inv.so_far;

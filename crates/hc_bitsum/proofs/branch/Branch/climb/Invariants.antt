@@ -6,7 +6,7 @@ use Rattle.hc_bitsum.proofs.branch.Branch.climb.Given as goal
 
 abbrev pub invariant-loop-height : goal.invariant-loop-height
 invariant-loop-height l = record {
-  is_placed : BeginsWithRow l.self.levels l.height l.node l.row;
+  begins : BeginsWithRow l.self.levels l.height l.node l.row;
   from : l.first ≤ l.row;
   within : l.row ≤ l.end;
   so_far : l.so_far ≡ filled_with_areas l.fn.filled (part l.self.dir l.self.rows.items l.first (l.row - l.first));

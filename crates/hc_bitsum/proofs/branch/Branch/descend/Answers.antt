@@ -10,8 +10,8 @@ use Rattle.hc_bitsum.proofs.branch.Branch.descend.Goals.{then-row-height, else-r
 pub filled_by-so_far-requires-clause-node : goal.filled_by-so_far-requires-clause-node
 filled_by-so_far-requires-clause-node c =
     let branch = c.args.self.now in
-    let small = is_placed-small branch.levels c.levels.height c.levels.node c.levels.row c.requires.branch.low c.levels.invariant.is_placed in
-    let own = is_placed-node branch.levels c.levels.height c.levels.node c.levels.row c.levels.invariant.is_placed (omega arith) in
+    let small = is_placed-small branch.levels c.levels.height c.levels.node c.levels.row c.requires.branch.low c.levels.invariant.begins in
+    let own = is_placed-node branch.levels c.levels.height c.levels.node c.levels.row c.levels.invariant.begins (omega arith) in
     node-index branch c.levels.height c.levels.node c.requires.branch own
 
 pub filled_by-so_far-requires-clause-here : goal.filled_by-so_far-requires-clause-here
@@ -20,9 +20,9 @@ filled_by-so_far-requires-clause-here c = grind (arith, is_placed-small, rows-lo
 pub filled_by-so_far-requires-clause-there : goal.filled_by-so_far-requires-clause-there
 filled_by-so_far-requires-clause-there c =
     let branch = c.args.self.now in
-    let small = is_placed-small branch.levels c.levels.height c.levels.node c.levels.row c.requires.branch.low c.levels.invariant.is_placed in
+    let small = is_placed-small branch.levels c.levels.height c.levels.node c.levels.row c.requires.branch.low c.levels.invariant.begins in
     let inv = c.levels.invariant in
-    let own = is_placed-node branch.levels c.levels.height c.levels.node c.levels.row inv.is_placed (omega arith) in
+    let own = is_placed-node branch.levels c.levels.height c.levels.node c.levels.row inv.begins (omega arith) in
     let low = rows-low branch c.args.from.row c.levels.row c.args.end c.args.from.filled inv.from inv.within in
     let bit = ap (λ (r : Filled). r.bit) inv.so_far in
     read-low branch c.levels.height c.levels.node c.levels.so_far c.requires.branch own (omega arith)
@@ -35,12 +35,12 @@ returns-then-row-end c =
     let row = c.levels.row in
     let inv = c.levels.invariant in
     let from = inv.from in
-    let small = is_placed-small branch.levels height node row c.requires.branch.low inv.is_placed in
+    let small = is_placed-small branch.levels height node row c.requires.branch.low inv.begins in
     let at = c.if-row-end.true in
     elim c.if-row-height.branch [
       | then-row-height w ↦
           let row-is = w.row-is in
-          let filled = taken branch height node c.args.from.row row c.args.from.filled c.levels.so_far w.filled_by-so_far.result c.requires.branch inv.is_placed from (omega arith) inv.so_far w.filled_by-so_far.ensures in
+          let filled = taken branch height node c.args.from.row row c.args.from.filled c.levels.so_far w.filled_by-so_far.result c.requires.branch inv.begins from (omega arith) inv.so_far w.filled_by-so_far.ensures in
           let end : row + 2 ^ height - c.args.from.row ≡ c.args.end - c.args.from.row = omega arith in
           w.so_far-is ∙ filled ∙ ap (λ n. filled_with_areas c.args.from.filled (part branch.dir branch.rows.items c.args.from.row n)) end
       | else-row-height w ↦
@@ -52,7 +52,7 @@ returns-then-row-end c =
 pub levels-preserved : goal.levels-preserved
 levels-preserved c =
     let branch = c.args.self.now in
-    let small = is_placed-small branch.levels c.levels.height c.levels.node c.levels.row c.requires.branch.low c.levels.invariant.is_placed in
+    let small = is_placed-small branch.levels c.levels.height c.levels.node c.levels.row c.requires.branch.low c.levels.invariant.begins in
     let height = c.levels.height in
     let node = c.levels.node in
     let row = c.levels.row in
@@ -65,12 +65,12 @@ levels-preserved c =
     let other = c.if-row-end.false in
     elim c.if-row-height.branch [
       | then-row-height w ↦
-          let filled = taken branch height node c.args.from.row row c.args.from.filled c.levels.so_far w.filled_by-so_far.result c.requires.branch inv.is_placed from (omega arith) inv.so_far w.filled_by-so_far.ensures in
+          let filled = taken branch height node c.args.from.row row c.args.from.filled c.levels.so_far w.filled_by-so_far.result c.requires.branch inv.begins from (omega arith) inv.so_far w.filled_by-so_far.ensures in
           let row-is : c.if-row-height.row ≡ row + 2 ^ height = let is = w.row-is in omega arith in
           let some = high-some height (omega arith) in
           let same : 2 ^ (height - 1 + 1) ≡ 2 ^ height = ap (λ n. 2 ^ n) (omega arith) in
           rw (row-is, w.node-is, w.so_far-is) (record {
-            is_placed = is_placed-down branch.levels height (node + 1) (row + 2 ^ height) some (is_placed-next branch.levels height node row inv.is_placed);
+            begins = is_placed-down branch.levels height (node + 1) (row + 2 ^ height) some (is_placed-next branch.levels height node row inv.begins);
             from = omega arith;
             within = omega arith;
             near = omega arith;
@@ -81,7 +81,7 @@ levels-preserved c =
           let some = high-some height (omega arith) in
           let same : 2 ^ (height - 1 + 1) ≡ 2 ^ height = ap (λ n. 2 ^ n) (omega arith) in
           rw (w.row-is, w.node-is, w.so_far-is) (record {
-            is_placed = is_placed-down branch.levels height node row some inv.is_placed;
+            begins = is_placed-down branch.levels height node row some inv.begins;
             from = from;
             within = low;
             near = omega arith;

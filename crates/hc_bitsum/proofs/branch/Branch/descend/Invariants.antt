@@ -6,7 +6,7 @@ use Rattle.hc_bitsum.proofs.branch.Branch.descend.Given as goal
 
 abbrev pub invariant-levels : goal.invariant-levels
 invariant-levels l = record {
-  is_placed : BeginsWithRow l.self.levels l.height l.node l.row;
+  begins : BeginsWithRow l.self.levels l.height l.node l.row;
   from : l.fn.from.row ≤ l.row;
   within : l.row ≤ l.end;
   near : l.end < l.row + 2 ^ (l.height + 1);

@@ -16,14 +16,14 @@ filled_by_each-head-requires-clause-there c =
     let there = c.requires.there in
     omega arith
 
-pub climb-are_placed-requires-clause-within : goal.climb-are_placed-requires-clause-within
-climb-are_placed-requires-clause-within c =
+pub climb-climbed-requires-clause-within : goal.climb-climbed-requires-clause-within
+climb-climbed-requires-clause-within c =
     let size = branch-size c.args.self.now c.requires.branch in
     let within = c.requires.within in
     omega arith
 
-pub climb-are_placed-requires-clause-there : goal.climb-are_placed-requires-clause-there
-climb-are_placed-requires-clause-there c =
+pub climb-climbed-requires-clause-there : goal.climb-climbed-requires-clause-there
+climb-climbed-requires-clause-there c =
     let branch = c.args.self.now in
     let size = branch-size branch c.requires.branch in
     let within = c.requires.within in
@@ -48,8 +48,8 @@ descend-rows-requires-clause-there c =
     let within = c.requires.within in
     let ceil = c.div_ceil-first_row.ensures in
     let test = c.if-first_row-end_row.false in
-    let are_placed = c.climb-are_placed.result in
-    let climbed = c.climb-are_placed.ensures in
+    let are_placed = c.climb-climbed.result in
+    let climbed = c.climb-climbed.ensures in
     let own : filled_with_areas are_placed.filled (part branch.dir branch.rows.items are_placed.row (c.args.end / 8 - are_placed.row)) ≡ filled_with_areas c.args.filled (stretch c.args.first (8 * (c.args.end / 8)) (branch_slots branch).areas) =
     ap (λ (f : Filled). filled_with_areas f (part branch.dir branch.rows.items are_placed.row (c.args.end / 8 - are_placed.row))) climbed.so_far
     ∙ rows-on branch c.div_ceil-first_row.result are_placed.row (c.args.end / 8) c.filled_by_each-head.result climbed.from climbed.within
@@ -67,8 +67,8 @@ filled_by_each-requires-2-clause-there c =
     let within = c.requires.within in
     let ceil = c.div_ceil-first_row.ensures in
     let test = c.if-first_row-end_row.false in
-    let are_placed = c.climb-are_placed.result in
-    let climbed = c.climb-are_placed.ensures in
+    let are_placed = c.climb-climbed.result in
+    let climbed = c.climb-climbed.ensures in
     let own : c.descend-rows.result ≡ filled_with_areas c.args.filled (stretch c.args.first (8 * (c.args.end / 8)) areas) =
     c.descend-rows.ensures
     ∙ ap (λ (f : Filled). filled_with_areas f (part branch.dir branch.rows.items are_placed.row (c.args.end / 8 - are_placed.row))) climbed.so_far
@@ -88,8 +88,8 @@ returns c =
     let within = c.requires.within in
     let ceil = c.div_ceil-first_row.ensures in
     let test = c.if-first_row-end_row.false in
-    let are_placed = c.climb-are_placed.result in
-    let climbed = c.climb-are_placed.ensures in
+    let are_placed = c.climb-climbed.result in
+    let climbed = c.climb-climbed.ensures in
     let own : c.descend-rows.result ≡ filled_with_areas c.args.filled (stretch c.args.first (8 * (c.args.end / 8)) areas) =
     c.descend-rows.ensures
     ∙ ap (λ (f : Filled). filled_with_areas f (part branch.dir branch.rows.items are_placed.row (c.args.end / 8 - are_placed.row))) climbed.so_far
