@@ -12,7 +12,7 @@ use Rattle.hc_places.specs.Table.{Table, table_of}
 -- the trees of a project's line
 pub record AreTreesOf (groups : List Declared) (trees : List TaskCuts) : Type 0 where
   pub project : lowest_fault (groups_of groups) ≡ None
-  pub are_placed : trees ≡ line_cuts (areas_by_rank groups)
+  pub of_groups : trees ≡ line_cuts (areas_by_rank groups)
 
 -- the trees of some project's line
 pub record AreOfLine (trees : List TaskCuts) : Type 0 where

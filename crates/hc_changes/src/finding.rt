@@ -90,10 +90,10 @@ impl<'b, 'a> MaybeMovedTest<'b, 'a> {
     {
         match place {
             Some(placed) => {
-                let unchanged = self
+                let until = self
                     .before
                     .unchanged_until(self.cuts, task, placed.datagram());
-                !placed.key().is_before(unchanged)
+                !placed.key().is_before(until)
             }
             None => false,
         }
@@ -208,8 +208,8 @@ impl<'b, 'a> MaybeMovedTest<'b, 'a> {
         let inputs = self.cuts.has_inputs(task);
         let mut all = ranks;
         for number in 0..starts.len() {
-            let unchanged = self.before.unchanged_until(self.cuts, task, number as u16);
-            let from = higher(starts[number], unchanged);
+            let until = self.before.unchanged_until(self.cuts, task, number as u16);
+            let from = higher(starts[number], until);
             let next = start_at(starts, number + 1);
             if from.is_before(next) {
                 all = all.joined(Ranks::between(from, next, inputs));

@@ -5,7 +5,7 @@ use Rattle.std.proofs.lemmas.List.Elements.{All-cons, All-nil}
 use Rattle.hc_records.specs.declared.records.Area.{Area}
 use Rattle.hc_cuts.specs.Starts.{TaskCuts, cuts_with_slaves}
 use Rattle.hc_cuts.specs.TaskCuts.{both_task_cuts, task_cuts_from, line_cuts}
-use Rattle.hc_cuts.specs.Room.{AreOfFewer, TreesCanAdmit, HasUnchangedRoom, with_absent}
+use Rattle.hc_cuts.specs.Room.{AreOfFewer, TreesCanAdmit, HasRoomFor, with_absent}
 use Rattle.hc_cuts.proofs.lemmas.Absent.{length-with_absent, list-absent}
 
 unchanged-wider : (task slaves count : ℕ) (line : List (List Area)) → slaves ≡ length line + count → cuts_with_slaves slaves (both_task_cuts task line) ≡ both_task_cuts task (with_absent count line)
@@ -27,7 +27,7 @@ pub fewer-wider : (slaves : ℕ) (tasks seen wider : List TaskCuts) (fewer : Are
     → wider ≡ line_cuts (with_absent (slaves - length fewer.line) fewer.line)
 fewer-wider slaves tasks seen wider fewer same is =
     let few = fewer.few in
-    line-wider slaves (slaves - length fewer.line) fewer.line tasks seen wider same fewer.are_placed (omega arith) is
+    line-wider slaves (slaves - length fewer.line) fewer.line tasks seen wider same fewer.of_line (omega arith) is
 
 -- each task has as many slaves as the line
 
@@ -37,10 +37,10 @@ from-all P line each (suc tasks) task = All-cons P (both_task_cuts task line) (t
 
 pub each-fewer : (tasks seen : List TaskCuts) (slaves : ℕ) → seen ≡ tasks → AreOfFewer tasks slaves → All (λ unchanged. unchanged.tree.slaves ≤ slaves) seen
 each-fewer tasks seen slaves same fewer =
-    subst (λ (all : List TaskCuts). All (λ unchanged. unchanged.tree.slaves ≤ slaves) all) (sym (same ∙ fewer.are_placed)) (from-all (λ unchanged. unchanged.tree.slaves ≤ slaves) fewer.line (λ task. fewer.few) 8 0)
+    subst (λ (all : List TaskCuts). All (λ unchanged. unchanged.tree.slaves ≤ slaves) all) (sym (same ∙ fewer.of_line)) (from-all (λ unchanged. unchanged.tree.slaves ≤ slaves) fewer.line (λ task. fewer.few) 8 0)
 
-pub each-room : (tasks seen : List TaskCuts) (slaves : ℕ) → seen ≡ tasks → TreesCanAdmit tasks slaves → All (HasUnchangedRoom slaves) seen
+pub each-room : (tasks seen : List TaskCuts) (slaves : ℕ) → seen ≡ tasks → TreesCanAdmit tasks slaves → All (HasRoomFor slaves) seen
 each-room tasks seen slaves same can =
     let fewer = can.fewer in
-    subst (λ (all : List TaskCuts). All (HasUnchangedRoom slaves) all) (sym (same ∙ fewer.are_placed))
-    (from-all (HasUnchangedRoom slaves) fewer.line (λ task. record { few = fewer.few; room = can.room }) 8 0)
+    subst (λ (all : List TaskCuts). All (HasRoomFor slaves) all) (sym (same ∙ fewer.of_line))
+    (from-all (HasRoomFor slaves) fewer.line (λ task. record { few = fewer.few; room = can.room }) 8 0)

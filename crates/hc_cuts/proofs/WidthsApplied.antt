@@ -56,8 +56,8 @@ holds-by task slaves line = record {
   list = line.lists task;
   places =
       All-append (λ a. HasPlace (length slaves) a.0) (rank_list task Out 1 slaves) (rank_list task In 1 slaves)
-      (rank-places (length slaves) task Out 1 slaves (omega arith) (omega arith) line.unchanged)
-      (rank-places (length slaves) task In 1 slaves (omega arith) (omega arith) line.unchanged);
+      (rank-places (length slaves) task Out 1 slaves (omega arith) (omega arith) line.bounded)
+      (rank-places (length slaves) task In 1 slaves (omega arith) (omega arith) line.bounded);
 }
 
 pub tree-holds : (task : ℕ) (slaves : List (List Area)) (tree : Tree) → IsProjectLine slaves → tree ≡ tree_by task slaves → HoldsTaskList tree

@@ -79,10 +79,10 @@ restore_widths-parts task change starts old new all these rest other is one rest
     let whole = split-tasks these rest all other (sym is) one in
     let own = subst (λ (list : List TaskCuts). RestoresWidths (length list) task list change starts old new) whole restore_widths in
     let unchanged = slice_index_or these 0 other in (
-      head-of unchanged (both_task_cuts task old) rest (task_cuts_from (length rest) (task + 1) old) own.are_placed,
+      head-of unchanged (both_task_cuts task old) rest (task_cuts_from (length rest) (task + 1) old) own.of_old,
       record {
         lines = own.lines;
-        are_placed = tail-of unchanged (both_task_cuts task old) rest (task_cuts_from (length rest) (task + 1) old) own.are_placed;
+        of_old = tail-of unchanged (both_task_cuts task old) rest (task_cuts_from (length rest) (task + 1) old) own.of_old;
         known = own.known;
       },
       ap (λ (list : List TaskCuts). length list) whole,

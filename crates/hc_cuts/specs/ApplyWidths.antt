@@ -26,34 +26,34 @@ pub record HasLines (change : LineChange) : Type 0 where
   pub lines : AreLines change old new
 
 -- the tasks from one on, `count` of them, are those of the old line, and none of them needs more than 16 datagrams
-pub record AppliesWidths (count task : ℕ) (unchanged : List TaskCuts) (change : LineChange) (old new : AreaLine) : Type 0 where
+pub record AppliesWidths (count task : ℕ) (tasks : List TaskCuts) (change : LineChange) (old new : AreaLine) : Type 0 where
   pub lines : AreLines change old new
-  pub are_placed : unchanged ≡ task_cuts_from count task old
+  pub of_old : tasks ≡ task_cuts_from count task old
   pub fits : over_limit_from count task old ≡ None
 
 -- the tasks of a list, from one on, are those of the old line, and none of them needs more than 16 datagrams
 abbrev pub Applies : ℕ → List TaskCuts → LineChange → AreaLine → AreaLine → Type 0
-Applies task unchanged change old new = AppliesWidths (length unchanged) task unchanged change old new
+Applies task tasks change old new = AppliesWidths (length tasks) task tasks change old new
 
 -- there are two such lines
-pub record CanApplyWidths (count task : ℕ) (unchanged : List TaskCuts) (change : LineChange) : Type 0 where
+pub record CanApplyWidths (count task : ℕ) (tasks : List TaskCuts) (change : LineChange) : Type 0 where
   pub old : AreaLine
   pub new : AreaLine
-  pub apply_widths : AppliesWidths count task unchanged change old new
+  pub apply_widths : AppliesWidths count task tasks change old new
 
 -- a task of the old line, and the two lines
 
 -- a task is that of the old of two such lines, and needs at most 16 datagrams in it
-pub record AppliesTaskWidths (task : ℕ) (unchanged : TaskCuts) (change : LineChange) (old new : AreaLine) : Type 0 where
+pub record AppliesTaskWidths (task : ℕ) (cuts : TaskCuts) (change : LineChange) (old new : AreaLine) : Type 0 where
   pub lines : AreLines change old new
-  pub is_placed : unchanged ≡ both_task_cuts task old
+  pub of_old : cuts ≡ both_task_cuts task old
   pub fits : is_over_limit task old ≡ false
 
 -- there are two such lines, and a task is that of the old one
-pub record CanApplyTaskWidths (task : ℕ) (unchanged : TaskCuts) (change : LineChange) : Type 0 where
+pub record CanApplyTaskWidths (task : ℕ) (cuts : TaskCuts) (change : LineChange) : Type 0 where
   pub old : AreaLine
   pub new : AreaLine
-  pub apply_widths : AppliesTaskWidths task unchanged change old new
+  pub apply_widths : AppliesTaskWidths task cuts change old new
 
 -- two lines that differ so, and a tree holds the task's areas in the old one
 pub record HasTree (task : ℕ) (tree : Tree) (change : LineChange) : Type 0 where
@@ -67,13 +67,13 @@ abbrev pub AreStartsOf : AreaLine → List (List Key) → Type 0
 AreStartsOf line starts = (task : ℕ) → task < TASKS → slice_index_or starts task [] ≡ starts_by task line
 
 -- the tasks from one on, `count` of them, are those of the old line, and the boundaries of the new line's are known
-pub record RestoresWidths (count task : ℕ) (unchanged : List TaskCuts) (change : LineChange) (starts : List (List Key)) (old new : AreaLine) : Type 0 where
+pub record RestoresWidths (count task : ℕ) (tasks : List TaskCuts) (change : LineChange) (starts : List (List Key)) (old new : AreaLine) : Type 0 where
   pub lines : AreLines change old new
-  pub are_placed : unchanged ≡ task_cuts_from count task old
+  pub of_old : tasks ≡ task_cuts_from count task old
   pub known : AreStartsOf new starts
 
 -- there are two such lines
-pub record CanRestoreWidths (count task : ℕ) (unchanged : List TaskCuts) (change : LineChange) (starts : List (List Key)) : Type 0 where
+pub record CanRestoreWidths (count task : ℕ) (tasks : List TaskCuts) (change : LineChange) (starts : List (List Key)) : Type 0 where
   pub old : AreaLine
   pub new : AreaLine
-  pub restore_widths : RestoresWidths count task unchanged change starts old new
+  pub restore_widths : RestoresWidths count task tasks change starts old new

@@ -8,5 +8,5 @@ use Rattle.hc_cuts.specs.Starts.{TaskCuts}
 -- each task has a cursor that is in it; the lists are as long as there are tasks, so no other value stands for one
 abbrev pub AreInTasks : List TaskCuts → List Cursor → Type 0
 AreInTasks tasks cursors =
-    (task : ℕ) (unchanged : TaskCuts) (cursor : Cursor) → task < TASKS
-    → IsCursorOf (slice_index_or tasks task unchanged).starts (slice_index_or tasks task unchanged).tree.list (slice_index_or cursors task cursor)
+    (task : ℕ) (other : TaskCuts) (cursor : Cursor) → task < TASKS
+    → IsCursorOf (slice_index_or tasks task other).starts (slice_index_or tasks task other).tree.list (slice_index_or cursors task cursor)

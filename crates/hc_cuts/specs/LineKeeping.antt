@@ -28,4 +28,4 @@ pub record IsKnownBefore (old new : AreaLine) (before : Before) : Type 0 where
 pub record AreTasksOfEdit (old new : AreaLine) (before : Before) (cuts : List TaskCuts) : Type 0 where
   pub line : IsProjectLine new
   pub known : IsKnownBefore old new before
-  pub are_placed : cuts ≡ line_cuts new
+  pub of_new : cuts ≡ line_cuts new

@@ -12,7 +12,7 @@ with_absent count line = line ++ replicate count []
 -- the tasks are those of a line of at most so many slaves
 pub record AreOfFewer (tasks : List TaskCuts) (slaves : ℕ) : Type 0 where
   pub line : AreaLine
-  pub are_placed : tasks ≡ line_cuts line
+  pub of_line : tasks ≡ line_cuts line
   pub few : length line ≤ slaves
 
 -- the tasks are those of a line of at most this many slaves, and trees of as many slaves as the line has have the capacity for
@@ -22,6 +22,6 @@ pub record TreesCanAdmit (tasks : List TaskCuts) (slaves : ℕ) : Type 0 where
   pub room : HasRoom (length fewer.line) slaves
 
 -- a task has at most this many slaves, and its tree has the capacity for them
-pub record HasUnchangedRoom (slaves : ℕ) (unchanged : TaskCuts) : Type 0 where
-  pub few : unchanged.tree.slaves ≤ slaves
-  pub room : HasRoom unchanged.tree.slaves slaves
+pub record HasRoomFor (slaves : ℕ) (cuts : TaskCuts) : Type 0 where
+  pub few : cuts.tree.slaves ≤ slaves
+  pub room : HasRoom cuts.tree.slaves slaves

@@ -26,4 +26,4 @@ empty_task_cuts slaves = record { tree = record { slaves = slaves; list = [] }; 
 
 -- the same areas and boundaries, with this many slaves
 abbrev pub cuts_with_slaves : ℕ → TaskCuts → TaskCuts
-cuts_with_slaves slaves unchanged = record { tree = record { slaves = slaves; list = unchanged.tree.list }; starts = unchanged.starts }
+cuts_with_slaves slaves cuts = record { tree = record { slaves = slaves; list = cuts.tree.list }; starts = cuts.starts }

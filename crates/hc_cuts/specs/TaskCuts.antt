@@ -15,7 +15,7 @@ use Rattle.hc_cuts.specs.Widths.{AreBounded}
 -- the areas of the slaves of a line of a project
 pub record IsProjectLine (slaves : AreaLine) : Type 0 where
   pub few : length slaves ≤ MOST_SLAVES
-  pub unchanged : All AreBounded slaves
+  pub bounded : All AreBounded slaves
   pub lists : (task : ℕ) → IsTaskList (list_by task slaves)
 
 -- a task's areas, and their boundaries without END
@@ -52,4 +52,4 @@ over_limit_from (suc count) task slaves = if is_over_limit task slaves then Some
 
 -- the boundaries of a task are its areas'
 abbrev pub IsCut : TaskCuts → Type 0
-IsCut unchanged = unchanged.starts ++ END ∷ [] ≡ boundaries unchanged.tree.list
+IsCut cuts = cuts.starts ++ END ∷ [] ≡ boundaries cuts.tree.list

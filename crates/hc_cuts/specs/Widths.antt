@@ -23,7 +23,7 @@ pub record IsSetTo (old new : TaskCuts) (widths : Key → ℕ) : Type 0 where
 
 -- the widths of a slave's areas, and those of a task for every other key
 abbrev pub widths_with_slave : ℕ → ℕ → List Area → TaskCuts → Key → ℕ
-widths_with_slave task rank areas unchanged key = if rank == key.rank then slave_width task areas key else width_in unchanged.tree.list key
+widths_with_slave task rank areas cuts key = if rank == key.rank then slave_width task areas key else width_in cuts.tree.list key
 
 -- the width of a key differs between a slave's old areas and its new ones, or between those of all slaves
 

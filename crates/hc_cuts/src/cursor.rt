@@ -63,7 +63,7 @@ impl Cursor {
 
     /// Returns a cursor at the first key of the datagram with a number.
     fn at_front(key: Key, datagram: u16) -> Cursor
-        ensures is_placed { (starts : List Key) → (list : List Keyed) → datagram < length starts → slice_index_or starts datagram END ≡ key → IsCursorOf starts list result }
+        ensures in_task { (starts : List Key) → (list : List Keyed) → datagram < length starts → slice_index_or starts datagram END ≡ key → IsCursorOf starts list result }
         ensures key { result.key ≡ key }
         ensures datagram { result.datagram ≡ datagram }
     {
@@ -93,7 +93,7 @@ impl Cursor {
         requires within { self.datagram < length starts.now }
         requires few { length starts.now ≤ MOST_DATAGRAMS }
         requires first { is_within (slice_index_or starts.now 0 END) key ≡ true }
-        ensures is_placed { (list : List Keyed) → IsCursorOf starts.now list self → IsCursorOf starts.now list result }
+        ensures in_task { (list : List Keyed) → IsCursorOf starts.now list self → IsCursorOf starts.now list result }
         ensures low { is_within result.key key ≡ true }
         ensures next { result.datagram + 1 < length starts.now → is_before key (slice_index_or starts.now (result.datagram + 1) END) ≡ true }
     {
@@ -113,7 +113,7 @@ impl Cursor {
         requires few { length starts.now ≤ MOST_DATAGRAMS }
         requires stood { IsCursorOf starts.now task.now.list self.old }
         ensures place { result ≡ place_of key task.now.list }
-        ensures is_placed { IsCursorOf starts.now task.now.list self.new }
+        ensures in_task { IsCursorOf starts.now task.now.list self.new }
     {
         let bits = task.bits(key);
         if bits == 0 {

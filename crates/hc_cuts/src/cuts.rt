@@ -253,7 +253,7 @@ impl Cuts {
         requires cut { self.now.starts ++ END ∷ [] ≡ boundaries self.now.tree.list }
         requires stood { IsCursorOf self.now.starts self.now.tree.list cursor.old }
         ensures place { result ≡ place_of key self.now.tree.list }
-        ensures is_placed { IsCursorOf self.now.starts self.now.tree.list cursor.new }
+        ensures in_task { IsCursorOf self.now.starts self.now.tree.list cursor.new }
     {
         cursor.place(&self.tree, self.starts.as_slice(), key)
     }

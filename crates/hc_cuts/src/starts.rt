@@ -64,7 +64,7 @@ impl LineStarts {
     /// Returns a copy of the boundaries of eight tasks. It allocates nothing.
     pub(crate) fn of(tasks: &[Cuts]) -> LineStarts
         requires { length tasks.now ≡ 8 }
-        ensures { result ≡ map (λ unchanged. unchanged.starts) tasks.now }
+        ensures { result ≡ map (λ cuts. cuts.starts) tasks.now }
     {
         let mut starts = ArrayVec::new();
         for cuts in tasks {

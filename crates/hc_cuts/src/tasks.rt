@@ -113,7 +113,7 @@ impl LineCuts {
         steps: &mut Steps<L>,
     ) -> Result<LineCuts, EditFault>
         requires { IsProjectLine line.now }
-        ensures unchanged { IfOk result (λ cuts. cuts ≡ line_cuts line.now) }
+        ensures cuts { IfOk result (λ cuts. cuts ≡ line_cuts line.now) }
         ensures accepted { OnOk result (over_limit_from 8 0 line.now ≡ None) }
         ensures refused { IfErr result (λ fault. fault ≢ Memory → option_map TooManyDatagrams (over_limit_from 8 0 line.now) ≡ Some fault) }
     {
@@ -227,7 +227,7 @@ impl LineCuts {
     ) -> Option<Placed>
         requires { AreInTasks self.now cursors.old }
         ensures place { (line : AreaLine) → self.now ≡ line_cuts line → result ≡ place_of key (list_by task line) }
-        ensures are_placed { AreInTasks self.now cursors.new }
+        ensures in_tasks { AreInTasks self.now cursors.new }
     {
         let task = task.as_index();
         self.tasks[task].place_from(&mut cursors[task], key)
@@ -235,7 +235,7 @@ impl LineCuts {
 
     /// Returns a copy of the boundaries of the eight tasks, to be compared with later ones or restored. It allocates nothing.
     pub fn copied_starts(&self) -> LineStarts
-        ensures copy { result ≡ map (λ unchanged. unchanged.starts) self.now }
+        ensures copy { result ≡ map (λ cuts. cuts.starts) self.now }
         ensures starts { (line : AreaLine) → self.now ≡ line_cuts line → AreStartsOf line result }
     {
         LineStarts::of(self.tasks.as_slice())

@@ -99,7 +99,7 @@ impl Prepared {
         requires changes { declares edit.now ≡ false }
         ensures change { IfOk result (λ change. change_by groups.now edit.now ≡ Some change) }
         ensures groups { IfOk result (λ change. changed_groups change groups.now ≡ groups_after groups.now edit.now) }
-        ensures unchanged { IfOk result (λ change. lowest_fault (groups_of (changed_groups change groups.now)) ≡ None) }
+        ensures project_after { IfOk result (λ change. lowest_fault (groups_of (changed_groups change groups.now)) ≡ None) }
         ensures row { IfOk result (λ change. ChangesRow change groups.now) }
         ensures accepted { OnOk result (own_fault groups.now edit.now ≡ None) }
         ensures own { IfSome (own_fault groups.now edit.now) (λ fault. result ≡ Err fault) }

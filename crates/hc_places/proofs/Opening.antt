@@ -32,14 +32,14 @@ are-opened groups slaves again cuts none is same accepted unchanged = record {
   project = none;
   areas = same;
   accepted = ap (λ (s : List (List Area)). over_limit_from 8 0 s) (same ∙ sym is) ∙ accepted;
-  unchanged = unchanged ∙ ap (λ (s : List (List Area)). line_cuts s) (is ∙ sym same);
+  of_areas = unchanged ∙ ap (λ (s : List (List Area)). line_cuts s) (is ∙ sym same);
 }
 
 pub opened-task : (slaves : List (List Area)) (unchanged : List TaskCuts) (opened : AreOpened slaves unchanged) (task : ℕ) (places : List Placed) → task < 8
     → ((line : List (List Area)) → unchanged ≡ line_cuts line → places ≡ packed opening (list_by task line)) → IsTask opened.groups task places
 opened-task slaves unchanged opened task places low answer_given =
     unchanged-task opened.groups task places low opened.project (same-over_limit opened.groups slaves opened.areas ∙ opened.accepted)
-    (answer_given (areas_by_rank opened.groups) (opened.unchanged ∙ ap (λ (s : List (List Area)). line_cuts s) opened.areas))
+    (answer_given (areas_by_rank opened.groups) (opened.of_areas ∙ ap (λ (s : List (List Area)). line_cuts s) opened.areas))
 
 pub table-made : (line : List Member) (tables : List TaskTable) (rows : List VariableRow) → tables ≡ map (task_table line) tasks → rows ≡ flat_map (task_variables line) tasks
     → record { tasks = tables; variables = by_number rows } ≡ table_of line

@@ -14,4 +14,4 @@ pub record AreOpened (slaves : List (List Area)) (cuts : List TaskCuts) : Type 0
   pub project : lowest_fault (groups_of groups) ≡ None
   pub areas : slaves ≡ areas_by_rank groups
   pub accepted : over_limit_from 8 0 slaves ≡ None
-  pub unchanged : cuts ≡ line_cuts slaves
+  pub of_areas : cuts ≡ line_cuts slaves

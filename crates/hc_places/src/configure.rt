@@ -63,7 +63,7 @@ pub fn open_line<L: Ledger>(
     requires parts { blank.parts ≡ L.parts }
     requires one { L.parts ≡ 1 }
     requires project { lowest_fault (groups_of groups.now) ≡ None }
-    ensures unchanged { IfOk result (λ line. line.cuts ≡ line_cuts (areas_by_rank groups.now)) }
+    ensures cuts { IfOk result (λ line. line.cuts ≡ line_cuts (areas_by_rank groups.now)) }
     ensures places { IfOk result (λ line. line.places ≡ table_of (line_from 1 groups.now)) }
     ensures accepted { OnOk result (over_limit_task (line_from 1 groups.now) ≡ None) }
     ensures refused { IfErr result (NamesOverLimit (line_from 1 groups.now)) }

@@ -45,7 +45,7 @@ pub tasks-differ : (it : EditedLine) (table : Table) (known : Before) (trees : L
     → AreNewTasks (table_of (line_from 1 it.old)).tasks (table_of (line_from 1 it.new)).tasks tasks
 tasks-differ it table known trees tasks is is_placed before turned says =
     subst (λ (t : Table). AreNewTasks t.tasks (table_of (line_from 1 it.new)).tasks tasks) is_placed
-    (says it.old it.new (record { project = is.was_project; table = is_placed; tasks = before; line = record { project = is.is_project; are_placed = turned } }))
+    (says it.old it.new (record { project = is.was_project; table = is_placed; tasks = before; line = record { project = is.is_project; of_groups = turned } }))
 
 -- the rows that were reported, by what was read
 pub answer_given-rows : (it : EditedLine) (table : Table) (candidates read : List MaybeMoved) (change : LineChange) (rows : List ChangedRow) → table ≡ table_of (line_from 1 it.old)

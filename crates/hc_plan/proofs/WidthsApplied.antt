@@ -39,4 +39,4 @@ edited_line-restore_widths it unchanged change starts is trees known same = sear
 pub edited_line-back : (it : EditedLine) (unchanged : List TaskCuts) (change other : LineChange) (starts : List (List Key)) → IsEditedLine it → unchanged ≡ line_cuts (areas_by_rank it.new)
     → AreStartsOf (areas_by_rank it.old) starts → change ≡ it.change → other ≡ back change → RestoresWidths 8 0 unchanged other starts (areas_by_rank it.new) (areas_by_rank it.old)
 edited_line-back it unchanged change other starts is trees known same applied =
-    record { lines = answer_given-back change other (areas_by_rank it.old) (areas_by_rank it.new) applied (edited_line-lines it change is same); are_placed = trees; known = known }
+    record { lines = answer_given-back change other (areas_by_rank it.old) (areas_by_rank it.new) applied (edited_line-lines it change is same); of_old = trees; known = known }

@@ -151,7 +151,7 @@ impl Plan {
     /// condition holds of them, and no task of the line needs more than 16 datagrams. It takes no memory.
     pub fn groups(&self) -> &[Declared]
         ensures value { result.now ≡ self.now.groups }
-        ensures unchanged { lowest_fault (groups_of self.now.groups) ≡ None }
+        ensures project { lowest_fault (groups_of self.now.groups) ≡ None }
         ensures uncrowded { over_limit_task (line self.now) ≡ None }
     {
         self.groups.as_slice()
@@ -161,7 +161,7 @@ impl Plan {
     /// holds of the declared groups, and no task of the line needs more than 16 datagrams.
     pub fn places(&self) -> &Places
         ensures table { result.now ≡ (config (line self.now)).table }
-        ensures unchanged { lowest_fault (groups_of self.now.groups) ≡ None }
+        ensures project { lowest_fault (groups_of self.now.groups) ≡ None }
         ensures uncrowded { over_limit_task (line self.now) ≡ None }
     {
         &self.places

@@ -69,7 +69,7 @@ pub unchanged-is : (it : EditedLine) (before : Before) (cuts : List TaskCuts) �
     → ((old new : AreaLine) → AreTasksOfEdit old new before cuts → HoldsBefore until (is_unchanged_up_to (list_by task old) (list_by task new) number))
     → HoldsBefore until (is_unchanged_up_to (task_list task (line_from 1 it.old)) (task_list task (line_from 1 it.new)) number)
 unchanged-is it before cuts test task number until shows key low =
-    shows (areas_by_rank it.old) (areas_by_rank it.new) (record { line = project-line it.new test.is.is_project; known = test.is_placed; are_placed = test.applied }) key low
+    shows (areas_by_rank it.old) (areas_by_rank it.new) (record { line = project-line it.new test.is.is_project; known = test.known; of_new = test.applied }) key low
     ∙ sym (ap₂ (λ (old new : List Keyed). is_unchanged_up_to old new number key) (task-listed task it.old) (task-listed task it.new))
 
 -- whether its task is touched
@@ -77,7 +77,7 @@ unchanged-is it before cuts test task number until shows key low =
 touched-is : (it : EditedLine) (before : Before) (cuts : List TaskCuts) → IsMaybeMovedTest it before cuts → (task : ℕ) (some : Bool)
     → ((old new : List (List Area)) → IsKnownBefore old new before → some ≡ is_touched_by task old new)
     → some ≡ is_touched_task (line_from 1 it.old) (line_from 1 it.new) task
-touched-is it before cuts test task some shows = touched-answer_given it.old it.new before test.is_placed task some shows
+touched-is it before cuts test task some shows = touched-answer_given it.old it.new before test.known task some shows
 
 -- no area of a task that isn't touched is in a datagram that isn't kept up to it
 pub untouched-unchanged : (it : EditedLine) (before : Before) (cuts : List TaskCuts) → IsMaybeMovedTest it before cuts → (found : LineArea) (some : Bool) → some ≡ false

@@ -83,7 +83,7 @@ group-areas groups first declared i slave at within is =
     let many = length-present declared.present slaves in
     ap (areas_of_rank (areas_by_rank groups)) next
     ∙ areas-in-row (areas_by_rank groups) (areas_by_rank at.front) (present_areas declared) (areas_by_rank at.after_it) i
-    (ap areas_by_rank at.is_placed ∙ flat_map-append present_areas at.front (declared ∷ at.after_it)) (omega (arith, many, within))
+    (ap areas_by_rank at.split ∙ flat_map-append present_areas at.front (declared ∷ at.after_it)) (omega (arith, many, within))
     ∙ at-mapped (λ (s : Slave). if declared.present then s.areas else []) slaves i slave [] within is
 
 pub group-station : (groups : List Declared) (first : ℕ) (declared : Declared) (i : ℕ) (slave : Slave) → IsGroupAt groups first declared → i < length declared.group.slaves
@@ -101,7 +101,7 @@ pub group-few : (groups : List Declared) (first : ℕ) (declared : Declared) →
 group-few groups first declared at =
     let slaves = declared.group.slaves in
     let many = length-present declared.present slaves in
-    let all = ap length (ap areas_by_rank at.is_placed ∙ flat_map-append present_areas at.front (declared ∷ at.after_it)) in
+    let all = ap length (ap areas_by_rank at.split ∙ flat_map-append present_areas at.front (declared ∷ at.after_it)) in
     let parts = length-append (areas_by_rank at.front) (present_areas declared ++ areas_by_rank at.after_it) in
     let own = length-append (present_areas declared) (areas_by_rank at.after_it) in
     omega (arith, many, all, parts, own)
@@ -157,7 +157,7 @@ split-at xs i x within is = grind (arith, common_steps)
 pub group-at : (groups : List Declared) (first i : ℕ) (declared : Declared) → first ≡ length (areas_by_rank (take i groups)) + 1 → i < length groups
     → declared ≡ slice_index_or groups i declared → IsGroupAt groups first declared
 group-at groups first i declared rank within is =
-    record { front = take i groups; after_it = drop (i + 1) groups; is_placed = split-at groups i declared within is; rank = rank }
+    record { front = take i groups; after_it = drop (i + 1) groups; split = split-at groups i declared within is; rank = rank }
 
 -- the rank of the first slave of the next one
 pub group-next : (groups : List Declared) (first i : ℕ) (declared : Declared) → first ≡ length (areas_by_rank (take i groups)) + 1 → i < length groups

@@ -21,7 +21,7 @@ use Rattle.hc_records.specs.Keys.{is_within, is_before}
 -- what is known of a line's tasks before they are turned, and the turned tasks
 pub record IsMaybeMovedTest (edited_line : EditedLine) (before : Before) (cuts : List TaskCuts) : Type 0 where
   pub is : IsEditedLine edited_line
-  pub is_placed : IsKnownBefore (areas_by_rank edited_line.old) (areas_by_rank edited_line.new) before
+  pub known : IsKnownBefore (areas_by_rank edited_line.old) (areas_by_rank edited_line.new) before
   pub applied : cuts ≡ line_cuts (areas_by_rank edited_line.new)
 
 -- the areas of a task's datagram are where they were, up to a place in it
@@ -74,7 +74,7 @@ found_below edited_line (suc rank) = found_below edited_line rank ++ rank_found 
 pub record IsGroupAt (groups : List Declared) (first : ℕ) (declared : Declared) : Type 0 where
   pub front : List Declared
   pub after_it : List Declared
-  pub is_placed : groups ≡ front ++ (declared ∷ after_it)
+  pub split : groups ≡ front ++ (declared ∷ after_it)
   pub rank : first ≡ length (areas_by_rank front) + 1
 
 -- each slave with candidates has a rank from one up to another

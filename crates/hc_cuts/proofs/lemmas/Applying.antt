@@ -23,7 +23,7 @@ whole-lines old new first second many = record {
 -- the tasks of the one are turned into those of the other by all ranks
 pub whole-apply_widths : (unchanged : List TaskCuts) (old new : List (List Area)) → IsProjectLine old → IsProjectLine new → length new ≡ length old → unchanged ≡ line_cuts old → over_limit_from 8 0 old ≡ None
     → AppliesWidths 8 0 unchanged (record { first = 1; areas_before = old; areas_after = new }) old new
-whole-apply_widths unchanged old new first second many are_placed fits = record { lines = whole-lines old new first second many; are_placed = are_placed; fits = fits }
+whole-apply_widths unchanged old new first second many are_placed fits = record { lines = whole-lines old new first second many; of_old = are_placed; fits = fits }
 
 -- two lines the other way round
 abbrev pub back-lines : (change : LineChange) (old new : List (List Area)) → AreLines change old new → AreLines (back change) new old

@@ -53,7 +53,7 @@ ranks-declared (declared ∷ groups) =
 pub project-line : (groups : List Declared) → lowest_fault (groups_of groups) ≡ None → IsProjectLine (areas_by_rank groups)
 project-line groups none = record {
   few = let few = project-few (groups_of groups) none in let many = ranks-declared groups in omega (arith, few, many);
-  unchanged = groups-unchanged groups (each-group IsSlaveInside groups (project-inside (groups_of groups) none).slaves);
+  bounded = groups-unchanged groups (each-group IsSlaveInside groups (project-inside (groups_of groups) none).slaves);
   lists = λ task.
       let state : State = record { groups = groups; epoch = 0 } in
       subst (λ (list : List Keyed). IsTaskList list) (task-listed task groups) (project-list state task none);

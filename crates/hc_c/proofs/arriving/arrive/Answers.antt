@@ -35,7 +35,7 @@ returns-clause-answer c =
       entries = ap (λ (one : CoreState). one.history) c.in-Ok-arrive_discarding.ensures.entries;
       reachable = c.plan.ensures.reachable;
       state_is = c.plan.ensures.state;
-      project = c.places-places.ensures.unchanged;
+      project = c.places-places.ensures.project;
       uncrowded = c.places-places.ensures.uncrowded;
     } in
     let counts = c.put_arrived.new.counts in

@@ -6,7 +6,7 @@ use Rattle.hc_c.proofs.reading.give_image.Goals as goal
 
 pub give_slots-requires-clause-lengths : goal.give_slots-requires-clause-lengths
 give_slots-requires-clause-lengths c =
-    listed-lengths c.args.core.now.history c.plan.result.now c.places.result.now c.args.task c.datagrams-datagrams.result.now c.plan.ensures.state c.places.ensures.unchanged c.places.ensures.table c.datagrams-datagrams.ensures.datagrams
+    listed-lengths c.args.core.now.history c.plan.result.now c.places.result.now c.args.task c.datagrams-datagrams.result.now c.plan.ensures.state c.places.ensures.project c.places.ensures.table c.datagrams-datagrams.ensures.datagrams
 
 pub returns-clause-number : goal.returns-clause-number
 returns-clause-number c =

@@ -24,7 +24,7 @@ loop-number-preserved c =
 
 pub returns : goal.returns
 returns c before after edited =
-    all-loaded after c.args.task c.loop-number.number c.starts-number-end.result.now c.loop-number.table edited.line.project (c.starts-number-end.ensures.starts (areas_by_rank after) edited.line.are_placed)
+    all-loaded after c.args.task c.loop-number.number c.starts-number-end.result.now c.loop-number.table edited.line.project (c.starts-number-end.ensures.starts (areas_by_rank after) edited.line.of_groups)
     (omega (arith, c.loop-number-test.false)) (c.loop-number.invariant.are_placed before after edited)
 
 -- no width differs in the task

@@ -65,9 +65,9 @@ returns-in-Err-clause-unchanged g t c =
     let holds =
     ap (λ (k : TaskCuts). k.tree)
     (set-at s.result.0.now c.apply_in_task.new.cuts c.index-these-0-in-Err.result s.ensures.front_len ∙ c.in-Ok.ensures.applied r.old r.new p.0) in
-    let restore_widths = c.restore_in_task.ensures r.new r.old (answer_given-back c.args.change.now c.back-back.result r.old r.new c.back-back.ensures r.apply_widths.lines) holds (c.copied_starts-starts.ensures ∙ ap (λ (k : TaskCuts). k.starts) q.0.is_placed) in
+    let restore_widths = c.restore_in_task.ensures r.new r.old (answer_given-back c.args.change.now c.back-back.result r.old r.new c.back-back.ensures r.apply_widths.lines) holds (c.copied_starts-starts.ensures ∙ ap (λ (k : TaskCuts). k.starts) q.0.of_old) in
     set-again s.result.0.now c.apply_in_tasks.new.tasks c.apply_in_task.new.cuts c.restore_in_task.new.cuts s.ensures.front_len
-    ∙ ap (λ (k : TaskCuts). k ∷ c.apply_in_tasks.new.tasks) (restore_widths ∙ sym q.0.is_placed)
+    ∙ ap (λ (k : TaskCuts). k ∷ c.apply_in_tasks.new.tasks) (restore_widths ∙ sym q.0.of_old)
     ∙ ap (λ (ks : List TaskCuts). slice_index_or s.result.0.now 0 c.index-these-0.result ∷ ks) c.in-Err.ensures.unchanged
     ∙ sym (split-tasks s.result.0.now s.result.1.now c.args.tasks.now c.index-these-0.result (sym s.ensures.value) s.ensures.front_len)
 

@@ -18,14 +18,14 @@ use Rattle.hc_exchange.proofs.exchanging.exchange.Goals as goal
 
 pub packed-requires : goal.packed-requires
 packed-requires c =
-    subst IsLaidOut (sym c.places-places.ensures.table) (line-laid_out c.args.plan.now c.places-places.ensures.unchanged c.places-places.ensures.uncrowded)
+    subst IsLaidOut (sym c.places-places.ensures.table) (line-laid_out c.args.plan.now c.places-places.ensures.project c.places-places.ensures.uncrowded)
 
 pub frames_of-requires-clause-sizes : goal.frames_of-requires-clause-sizes
 frames_of-requires-clause-sizes c d low =
     let state = c.args.plan.now in
     let places = c.places-places.ensures in
     let count = ap length (c.datagrams-count.ensures.datagrams ∙ ap (λ (t : Table). datagrams_in t c.args.task) places.table) in
-    lengths-sent state c.args.task d c.args.outputs.now c.in_ok-packed.packed (can-configure state places.unchanged places.uncrowded)
+    lengths-sent state c.args.task d c.args.outputs.now c.in_ok-packed.packed (can-configure state places.project places.uncrowded)
     (holds-in state c.args.task c.args.outputs.now c.in_ok-packed.packed c.places-places.result.now places.table c.in_ok-packed.ensures) (subst (λ (n : ℕ). d < n) count low)
 
 pub returns-clause-sent : goal.returns-clause-sent
@@ -38,7 +38,7 @@ returns-clause-sent c =
     let frames = c.in_ok-frames.ensures ∙ ap₂ (λ (serial n : ℕ). task_frames serial task n (sent_bytes packed task)) (c.from.ensures ∙ c.blocks-2.ensures) count in
     record {
       bytes = sent_bytes packed task;
-      packed = λ d low. packed-data state task d c.args.outputs.now packed (can-configure state places.unchanged places.uncrowded)
+      packed = λ d low. packed-data state task d c.args.outputs.now packed (can-configure state places.project places.uncrowded)
           (holds-in state task c.args.outputs.now packed c.places-places.result.now places.table c.in_ok-packed.ensures) low;
       returned = c.send_all.ensures.frames ∙ ap₂ frames_through c.program.ensures frames;
       left = c.send_all.ensures.machines ∙ ap₂ machines_after c.program.ensures frames;
@@ -48,7 +48,7 @@ pub returns-clause-meant : goal.returns-clause-meant
 returns-clause-meant c can_be =
     let state = c.args.plan.now in
     let places = c.places-places.ensures in
-    let can = can-configure state places.unchanged places.uncrowded in
+    let can = can-configure state places.project places.uncrowded in
     let bytes = c.hold_bytes.ensures.bytes in
     let of_line = machines-of (line state) c.args.segment.now bytes c.hold_bytes.ensures.sizes can_be in
     let written = machines_written (line state) c.args.segment.now in

@@ -27,13 +27,13 @@ returns-in_err-places-clause-refused g c =
 pub opened_places-requires : goal.opened_places-requires
 opened_places-requires g c =
     are-opened c.args.groups.now c.as_slice.result.now c.as_slice-2.result.now c.in_ok-cuts.cuts c.requires.project (c.as_slice.ensures.value ∙ c.in_ok-slaves.ensures)
-    (c.as_slice-2.ensures.value ∙ c.in_ok-slaves.ensures) c.in_ok-cuts.ensures.accepted c.in_ok-cuts.ensures.unchanged
+    (c.as_slice-2.ensures.value ∙ c.in_ok-slaves.ensures) c.in_ok-cuts.ensures.accepted c.in_ok-cuts.ensures.cuts
 
 pub returns-clause-places : goal.returns-clause-places
 returns-clause-places g c =
     c.in_ok-places.ensures
     (are-opened c.args.groups.now c.as_slice.result.now c.as_slice-2.result.now c.in_ok-cuts.cuts c.requires.project (c.as_slice.ensures.value ∙ c.in_ok-slaves.ensures)
-    (c.as_slice-2.ensures.value ∙ c.in_ok-slaves.ensures) c.in_ok-cuts.ensures.accepted c.in_ok-cuts.ensures.unchanged)
+    (c.as_slice-2.ensures.value ∙ c.in_ok-slaves.ensures) c.in_ok-cuts.ensures.accepted c.in_ok-cuts.ensures.cuts)
 
 pub returns-clause-accepted : goal.returns-clause-accepted
 returns-clause-accepted g c = same-over_limit c.args.groups.now c.as_slice.result.now (c.as_slice.ensures.value ∙ c.in_ok-slaves.ensures) ∙ c.in_ok-cuts.ensures.accepted

@@ -41,4 +41,4 @@ pub moved_blocks-requires-clause-candidates : goal.moved_blocks-requires-clause-
 moved_blocks-requires-clause-candidates c = c.as_slice-found.ensures.value ∙ c.in_ok-candidates.ensures
 
 pub changed_tasks-requires : goal.changed_tasks-requires
-changed_tasks-requires c = record { groups = c.args.edited_line.now.new; line = record { project = c.requires.edit.is.is_project; are_placed = c.requires.trees } }
+changed_tasks-requires c = record { groups = c.args.edited_line.now.new; line = record { project = c.requires.edit.is.is_project; of_groups = c.requires.trees } }

@@ -5,4 +5,4 @@ use Rattle.hc_plan.proofs.declaring.put_trees.Goals as goal
 pub admit-requires : goal.admit-requires
 admit-requires c =
     let fewer = c.requires.fewer in
-    record { fewer = fewer; room = subst (AreTrees c.args.cuts.now c.args.slaves) c.in-None.is c.requires.trees fewer.line fewer.are_placed }
+    record { fewer = fewer; room = subst (AreTrees c.args.cuts.now c.args.slaves) c.in-None.is c.requires.trees fewer.line fewer.of_line }

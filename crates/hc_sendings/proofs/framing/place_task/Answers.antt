@@ -39,7 +39,7 @@ loop-number-preserved c =
     let frames = c.loop-number.frames.items in
     let listed = c.datagrams-datagrams.ensures.datagrams ∙ ap (λ (table : Table). datagrams_in table c.args.task) c.places.ensures.table in
     let bytes : ℕ = (get_or c.datagrams-datagrams.result.now number blank).length in
-    let length = listed-length c.args.plan.now c.args.task number c.datagrams-datagrams.result.now blank c.places.ensures.unchanged listed c.loop-number-test.true in
+    let length = listed-length c.args.plan.now c.args.task number c.datagrams-datagrams.result.now blank c.places.ensures.project listed c.loop-number-test.true in
     record {
       framed = λ rest.
           ap₂ (λ (frames : List Frame) (last : Option Frame). frames ++ framed_from members c.args.serial last rest) c.in_ok-place.ensures.done c.in_ok-place.ensures.open
@@ -57,7 +57,7 @@ pub returns-clause-framed : goal.returns-clause-framed
 returns-clause-framed c =
     let members = line c.args.plan.now in
     let listed = c.datagrams-datagrams.ensures.datagrams ∙ ap (λ (table : Table). datagrams_in table c.args.task) c.places.ensures.table in
-    let count = listed-count c.args.plan.now c.args.task c.datagrams-datagrams.result.now c.places.ensures.unchanged listed in
+    let count = listed-count c.args.plan.now c.args.task c.datagrams-datagrams.result.now c.places.ensures.project listed in
     let all : c.loop-number.number ≡ length c.datagrams-datagrams.result.now = omega (arith, c.loop-number-test.false) in
     λ rest.
     c.loop-number.invariant.framed rest

@@ -11,7 +11,7 @@ pub bounds-datagrams-from : goal.bounds-datagrams-from
 bounds-datagrams-from c =
     let task = c.args.datagram.0 in
     let listed = c.datagrams-datagrams.ensures.datagrams ∙ ap (λ (table : Table). datagrams_in table task) c.places.ensures.table in
-    let count = listed-count c.args.plan.now task c.datagrams-datagrams.result.now c.places.ensures.unchanged listed in
+    let count = listed-count c.args.plan.now task c.datagrams-datagrams.result.now c.places.ensures.project listed in
     omega (arith, c.requires, count, c.from.ensures)
 
 pub returns-clause-bytes : goal.returns-clause-bytes
@@ -19,7 +19,7 @@ returns-clause-bytes c =
     let task = c.args.datagram.0 in
     let number = c.args.datagram.1 in
     let listed = c.datagrams-datagrams.ensures.datagrams ∙ ap (λ (table : Table). datagrams_in table task) c.places.ensures.table in
-    let count = listed-count c.args.plan.now task c.datagrams-datagrams.result.now c.places.ensures.unchanged listed in
+    let count = listed-count c.args.plan.now task c.datagrams-datagrams.result.now c.places.ensures.project listed in
     let inside : number < length c.datagrams-datagrams.result.now = omega (arith, c.requires, count) in
-    let own = listed-length c.args.plan.now task number c.datagrams-datagrams.result.now blank c.places.ensures.unchanged listed inside in
+    let own = listed-length c.args.plan.now task number c.datagrams-datagrams.result.now blank c.places.ensures.project listed inside in
     ap (λ (n : ℕ). 12 + n) (c.from-2.ensures ∙ ap (λ (n : ℕ). (get_or c.datagrams-datagrams.result.now n blank).length) c.from.ensures ∙ own)

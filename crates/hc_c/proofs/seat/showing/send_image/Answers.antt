@@ -12,7 +12,7 @@ use Rattle.hc_c.proofs.seat.showing.send_image.Goals as goal
 
 pub add_slots-requires-clause-lengths : goal.add_slots-requires-clause-lengths
 add_slots-requires-clause-lengths c =
-    listed-lengths c.args.core.now.history c.plan-plan.result.now c.places-places.result.now c.args.task c.datagrams-datagrams.result.now c.plan-plan.ensures.state c.places-places.ensures.unchanged c.places-places.ensures.table c.datagrams-datagrams.ensures.datagrams
+    listed-lengths c.args.core.now.history c.plan-plan.result.now c.places-places.result.now c.args.task c.datagrams-datagrams.result.now c.plan-plan.ensures.state c.places-places.ensures.project c.places-places.ensures.table c.datagrams-datagrams.ensures.datagrams
 
 pub add_slots-requires-clause-bytes : goal.add_slots-requires-clause-bytes
 add_slots-requires-clause-bytes c =
@@ -27,13 +27,13 @@ pub add_outputs-requires-clause-count : goal.add_outputs-requires-clause-count
 add_outputs-requires-clause-count c =
     let plan = c.plan-plan.result.now in
     let are = c.datagrams-datagrams.ensures.datagrams ∙ ap (λ (it : Table). datagrams_in it c.args.task) c.places-places.ensures.table in
-    let count = listed-count plan c.args.task c.datagrams-datagrams.result.now c.places-places.ensures.unchanged are in
+    let count = listed-count plan c.args.task c.datagrams-datagrams.result.now c.places-places.ensures.project are in
     let here = ap (λ (state : State). datagram_count (task_places c.args.task (line state))) c.plan-plan.ensures.state in
     omega (arith, count, here)
 
 pub add_outputs-requires-clause-lengths : goal.add_outputs-requires-clause-lengths
 add_outputs-requires-clause-lengths c =
-    listed-lengths c.args.core.now.history c.plan-plan.result.now c.places-places.result.now c.args.task c.datagrams-datagrams.result.now c.plan-plan.ensures.state c.places-places.ensures.unchanged c.places-places.ensures.table c.datagrams-datagrams.ensures.datagrams
+    listed-lengths c.args.core.now.history c.plan-plan.result.now c.places-places.result.now c.args.task c.datagrams-datagrams.result.now c.plan-plan.ensures.state c.places-places.ensures.project c.places-places.ensures.table c.datagrams-datagrams.ensures.datagrams
 
 pub add_outputs-requires-clause-room : goal.add_outputs-requires-clause-room
 add_outputs-requires-clause-room c =

@@ -19,7 +19,7 @@ returns-in-Some c =
     let unchanged : ℕ → Key → Bool = λ number key. is_unchanged_up_to (task_list task (line_from 1 it.old)) (task_list task (line_from 1 it.new)) number key in
     let test : IsMaybeMovedTest it c.self.inside.before.now c.self.inside.cuts.now = search rules in
     let below : is_before placed.key END ≡ true = subst (λ (place : Option Placed). IfSome place (λ p. is_before p.key END ≡ true)) c.in-Some.is c.requires in
-    let answer_given : is_before placed.key c.unchanged_until-unchanged.result ≡ unchanged placed.datagram placed.key =
-    unchanged-is it c.self.inside.before.now c.self.inside.cuts.now test task c.datagram.result c.unchanged_until-unchanged.result c.unchanged_until-unchanged.ensures placed.key below
+    let answer_given : is_before placed.key c.unchanged_until-until.result ≡ unchanged placed.datagram placed.key =
+    unchanged-is it c.self.inside.before.now c.self.inside.cuts.now test task c.datagram.result c.unchanged_until-until.result c.unchanged_until-until.ensures placed.key below
     ∙ ap (λ (number : ℕ). unchanged number placed.key) c.datagram.ensures in
     search rules

@@ -28,7 +28,7 @@ loop-number-preserved c =
     let task = c.args.task in
     let starts = c.starts-starts.result.now in
     let inputs = c.has_inputs-inputs.result in
-    let until = c.unchanged_until-unchanged.result in
+    let until = c.unchanged_until-until.result in
     let from = c.higher-from.result in
     let low = c.loop-number.all.low in
     let high = c.loop-number.all.high in
@@ -38,7 +38,7 @@ loop-number-preserved c =
     let above : (key : Key) → IsUnkeptIn it task number starts inputs key → is_within from key ≡ true =
     λ key is.
     from-higher it task number starts inputs until from key is
-    (unchanged-is it c.self.inside.before.now c.self.inside.cuts.now test task number until c.unchanged_until-unchanged.ensures)
+    (unchanged-is it c.self.inside.before.now c.self.inside.cuts.now test task number until c.unchanged_until-until.ensures)
     (λ k first unchanged.
     let start = slice_index_or starts number START in
     let own : is_within start k ≡ true = subst (λ (other : Key). is_within other k ≡ true) (same-read starts number END START c.loop-number-test.true) first in

@@ -20,7 +20,7 @@ returns-clause-answer c =
     let unchanged = c.self.invariant in
     let history = history_read c.self.inside.history in
     let task = c.args.task in
-    let count = listed-count c.self.inside.plan task c.datagrams.result.now c.places.ensures.unchanged (c.datagrams.ensures.datagrams ∙ ap (λ table. datagrams_in table task) c.places.ensures.table) in
+    let count = listed-count c.self.inside.plan task c.datagrams.result.now c.places.ensures.project (c.datagrams.ensures.datagrams ∙ ap (λ table. datagrams_in table task) c.places.ensures.table) in
     let slots = c.in_ok-slots.ensures
     ∙ ap (λ n. map (slot_of c.args.self.now.history task) (range_with_len 0 n)) count
     ∙ ap (λ (core : CoreState). map (slot_of core.history task) (range_with_len 0 (datagram_count (task_places task (line c.self.inside.plan))))) (sym c.self.view_is)

@@ -41,13 +41,13 @@ invariant_of-result c =
     (subst (λ (waiting : Waiting). Agree (unchanged (opened groups) waiting c.new-9.result.items) (just_opened groups) (just_opened groups)) (sym c.in_ok-awaited.ensures)
     (subst (λ (changes : List Change). Agree (unchanged (opened groups) nothing changes) (just_opened groups) (just_opened groups)) (sym c.new-9.ensures.items)
     (agree-opened groups inputs c.in_ok-ages.ages first c.in_ok-outputs.outputs c.in_ok-owed.owed c.in_ok-readiness.readiness
-    (subst IsProject plan c.places.ensures.unchanged)
+    (subst IsProject plan c.places.ensures.project)
     (subst IsUncrowded plan c.places.ensures.uncrowded)
     c.in_ok-inputs.ensures c.in_ok-ages.ensures no_epoch owed ready zeros)))))
 
 pub new-requires-5 : goal.new-requires-5
 new-requires-5 c =
-    subst IsLaidOut (sym c.places.ensures.table) (line-laid_out c.in_ok-plan.plan c.places.ensures.unchanged c.places.ensures.uncrowded)
+    subst IsLaidOut (sym c.places.ensures.table) (line-laid_out c.in_ok-plan.plan c.places.ensures.project c.places.ensures.uncrowded)
 
 pub returns-in_err-plan-clause-refused : goal.returns-in_err-plan-clause-refused
 returns-in_err-plan-clause-refused c =

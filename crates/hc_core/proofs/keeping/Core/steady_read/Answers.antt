@@ -26,7 +26,7 @@ returns-clause-answer c =
     let task = c.args.task in
     let image = c.self.inside.inputs in
     let low : task < TASKS = omega (arith, c.if-task-ge-TASKS.false) in
-    let count = listed-count c.self.inside.plan task c.datagrams.result.now c.places.ensures.unchanged (c.datagrams.ensures.datagrams ∙ ap (λ table. datagrams_in table task) c.places.ensures.table) in
+    let count = listed-count c.self.inside.plan task c.datagrams.result.now c.places.ensures.project (c.datagrams.ensures.datagrams ∙ ap (λ table. datagrams_in table task) c.places.ensures.table) in
     let few : datagram_count (task_places task (line c.self.inside.plan)) ≤ MOST_DATAGRAMS = subst (λ n. n ≤ MOST_DATAGRAMS) count c.datagrams.ensures.few in
     let slots = c.in_ok-slots.ensures ∙ ap (data_of_first image task) count
     ∙ slots-shown history image task (datagram_count (task_places task (line c.self.inside.plan))) unchanged.slots low few

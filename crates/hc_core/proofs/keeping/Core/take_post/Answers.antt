@@ -16,7 +16,7 @@ use Rattle.hc_core.proofs.keeping.Core.take_post.Goals as goal
 
 pub post-requires : goal.post-requires
 post-requires c =
-    subst IsLaidOut (sym c.places.ensures.table) (line-laid_out c.self.inside.plan c.places.ensures.unchanged c.places.ensures.uncrowded)
+    subst IsLaidOut (sym c.places.ensures.table) (line-laid_out c.self.inside.plan c.places.ensures.project c.places.ensures.uncrowded)
 
 pub invariant_of-self : goal.invariant_of-self
 invariant_of-self c =

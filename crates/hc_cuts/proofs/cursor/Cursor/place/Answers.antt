@@ -12,7 +12,7 @@ pub filled-requires : goal.filled-requires
 filled-requires c =
     let on : GoesOn c.args.task.now c.args.starts.now c.before-from.result.datagram c.filled_between-filled.result c.args.key c.bits-bits.result =
     goes-on c.args.task.now c.args.starts.now c.before-from.result c.args.key c.bits-bits.result c.filled_between-filled.result c.requires.holds c.requires.all
-    (c.before-from.ensures.is_placed c.args.task.now.list c.requires.stood) c.before-from.ensures.low c.before-from.ensures.next (sym c.bits-bits.ensures.width) (omega arith)
+    (c.before-from.ensures.in_task c.args.task.now.list c.requires.stood) c.before-from.ensures.low c.before-from.ensures.next (sym c.bits-bits.ensures.width) (omega arith)
     c.filled_between-filled.ensures in
     on.cursor.low
 
@@ -20,9 +20,9 @@ pub returns : goal.returns
 returns c =
     let on : GoesOn c.args.task.now c.args.starts.now c.before-from.result.datagram c.filled_between-filled.result c.args.key c.bits-bits.result =
     goes-on c.args.task.now c.args.starts.now c.before-from.result c.args.key c.bits-bits.result c.filled_between-filled.result c.requires.holds c.requires.all
-    (c.before-from.ensures.is_placed c.args.task.now.list c.requires.stood) c.before-from.ensures.low c.before-from.ensures.next (sym c.bits-bits.ensures.width) (omega arith)
+    (c.before-from.ensures.in_task c.args.task.now.list c.requires.stood) c.before-from.ensures.low c.before-from.ensures.next (sym c.bits-bits.ensures.width) (omega arith)
     c.filled_between-filled.ensures in
     record {
       place = rw (c.place.ensures, c.filled.ensures) (sym on.area.place);
-      is_placed = on.cursor;
+      in_task = on.cursor;
     }

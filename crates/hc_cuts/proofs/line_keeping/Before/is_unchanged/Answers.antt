@@ -17,7 +17,7 @@ returns c = λ old new tasks.
     (record {
       list = tasks.line.lists c.args.task;
       old_boundaries = ap (λ (keys : List Key). keys ++ END ∷ []) (c.of_task.ensures ∙ own.starts c.args.task c.as_index.ensures.below);
-      new_boundaries = ap (λ (keys : List Key). keys ++ END ∷ []) (c.starts.ensures.starts new tasks.are_placed);
+      new_boundaries = ap (λ (keys : List Key). keys ++ END ∷ []) (c.starts.ensures.starts new tasks.of_new);
       differ =
           subst (λ (task : ℕ). AreHulls (is_touched was now) (slice_index_or c.self.inside.hulls task no_hulls)) (sym c.as_index.ensures.value)
           (own.hulls c.args.task c.as_index.ensures.below);

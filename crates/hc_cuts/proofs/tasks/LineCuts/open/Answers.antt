@@ -11,8 +11,8 @@ apply_widths-requires g c = record {
   apply_widths = absent-apply_widths c.opening-opening.result c.in_ok-cuts.cuts c.args.line.now c.opening-opening.ensures c.in_ok-cuts.ensures c.requires;
 }
 
-pub returns-in-Ok-clause-unchanged : goal.returns-in-Ok-clause-unchanged
-returns-in-Ok-clause-unchanged g c =
+pub returns-in-Ok-clause-cuts : goal.returns-in-Ok-clause-cuts
+returns-in-Ok-clause-cuts g c =
     c.in-Ok.ensures.applied (replicate (length c.args.line.now) []) c.args.line.now
     (absent-apply_widths c.opening-opening.result c.in_ok-cuts.cuts c.args.line.now c.opening-opening.ensures c.in_ok-cuts.ensures c.requires)
 

@@ -12,8 +12,8 @@ place_from-requires-clause-stood c =
     (unchanged-same c.self.inside.tasks.items c.args.self.now c.as_index-task.result own c.self.view_is c.index.ensures)
     (c.requires c.as_index-task.result own _ (omega (arith, c.as_index-task.ensures.value)))
 
-pub returns-clause-are_placed : goal.returns-clause-are_placed
-returns-clause-are_placed c =
+pub returns-clause-in_tasks : goal.returns-clause-in_tasks
+returns-clause-in_tasks c =
     one-moved c.self.inside.tasks.items c.args.self.now c.args.cursors.now c.as_index-task.result c.index.result.now _ c.self.view_is
     (omega (arith, c.as_index-task.ensures.value, c.self.invariant.0)) (omega (arith, c.as_index-task.ensures.value, c.told-cursors)) c.requires c.index.ensures
-    c.place_from.ensures.is_placed
+    c.place_from.ensures.in_task

@@ -14,8 +14,8 @@ change_by-requires-clause-counted c = project-counted c.args.groups.now c.requir
 pub returns-clause-groups : goal.returns-clause-groups
 returns-clause-groups c = carried-after c.args.groups.now c.args.edit.now c.in_ok-change.change c.requires.project c.in_ok-change.ensures
 
-pub returns-clause-unchanged : goal.returns-clause-unchanged
-returns-clause-unchanged c =
+pub returns-clause-project_after : goal.returns-clause-project_after
+returns-clause-project_after c =
     ap (λ (groups : List Declared). lowest_fault (groups_of groups)) (carried-after c.args.groups.now c.args.edit.now c.in_ok-change.change c.requires.project c.in_ok-change.ensures)
     ∙ project-unchanged c.args.groups.now c.args.edit.now c.requires.changes c.requires.project (sym c.own_fault.ensures ∙ c.in_default.is)
 

@@ -40,7 +40,7 @@ pub overflow_mul-places : goal.overflow_mul-places
 overflow_mul-places c =
     let count = ap length c.in_ok-stations.ensures ∙ length-map (slaves_of (groups_of c.groups.result.now)) (λ slave. slave.station)
     ∙ ap (λ (groups : List Declared). length (slaves_of (groups_of groups))) c.groups.ensures.value in
-    let few = project-few (groups_of c.args.plan.now.groups) c.groups.ensures.unchanged in
+    let few = project-few (groups_of c.args.plan.now.groups) c.groups.ensures.project in
     omega (arith, count, few, c.len-places.ensures)
 
 pub declared_flags-requires-clause-places : goal.declared_flags-requires-clause-places
@@ -54,5 +54,5 @@ pub declared_flags-requires-clause-low : goal.declared_flags-requires-clause-low
 declared_flags-requires-clause-low c =
     let count = ap length c.in_ok-stations.ensures ∙ length-map (slaves_of (groups_of c.groups.result.now)) (λ slave. slave.station)
     ∙ ap (λ (groups : List Declared). length (slaves_of (groups_of groups))) c.groups.ensures.value in
-    let few = project-few (groups_of c.args.plan.now.groups) c.groups.ensures.unchanged in
+    let few = project-few (groups_of c.args.plan.now.groups) c.groups.ensures.project in
     omega (arith, count, few, c.len-places.ensures)

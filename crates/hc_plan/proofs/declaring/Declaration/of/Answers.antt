@@ -24,7 +24,7 @@ pub widened-requires-clause-fewer : goal.widened-requires-clause-fewer
 widened-requires-clause-fewer c =
     let groups = c.args.groups.now in
     let many = c.declared.ensures ∙ many-ranks groups c.of-indexed.result (c.of-indexed.ensures ∙ c.as_slice.ensures) in
-    record { line = areas_by_rank groups; are_placed = c.requires.cuts; few = omega (arith, many) }
+    record { line = areas_by_rank groups; of_line = c.requires.cuts; few = omega (arith, many) }
 
 pub widened-requires-clause-most : goal.widened-requires-clause-most
 widened-requires-clause-most c =

@@ -62,7 +62,7 @@ work_out-requires-clause-edit c =
     let change = c.in_ok-change.change in
     makes c.of-edited_line.result change edit c.self.inside.places c.self.inside.groups c.requires
     (subst IsEditedLine (sym c.of-edited_line.ensures) (change-edited_line c.of-groups.result change (record { edit = edit; changes = c.requires; leads = c.in_ok-change.ensures.groups })
-    (subst (λ (g : List Declared). lowest_fault (groups_of g) ≡ None) (sym (c.of-groups.ensures ∙ c.as_slice.ensures)) c.self.invariant.0) c.in_ok-change.ensures.unchanged c.in_ok-change.ensures.row))
+    (subst (λ (g : List Declared). lowest_fault (groups_of g) ≡ None) (sym (c.of-groups.ensures ∙ c.as_slice.ensures)) c.self.invariant.0) c.in_ok-change.ensures.project_after c.in_ok-change.ensures.row))
     (c.of-edited_line.ensures ∙ ap (edited_line_of change) (c.of-groups.ensures ∙ c.as_slice.ensures))
     (subst (λ (g : List Declared). own_fault g edit ≡ None) (c.of-groups.ensures ∙ c.as_slice.ensures) c.in_ok-change.ensures.accepted)
     (subst (λ (g : List Declared). changed_groups change g ≡ groups_after g edit) (c.of-groups.ensures ∙ c.as_slice.ensures) c.in_ok-change.ensures.groups)
@@ -86,7 +86,7 @@ invariant_of-result c =
       is-ready old work c.of-edited_line.result edit worked.report c.self.inside.places answer_given.report.named c.requires
           (subst (λ (g : List Declared). change_by g edit ≡ Some change) slice c.in_ok-change.ensures.change)
           (subst (λ (g : List Declared). changed_groups change g ≡ groups_after g edit) slice c.in_ok-change.ensures.groups)
-          (subst (λ (g : List Declared). lowest_fault (groups_of (changed_groups change g)) ≡ None) slice c.in_ok-change.ensures.unchanged)
+          (subst (λ (g : List Declared). lowest_fault (groups_of (changed_groups change g)) ≡ None) slice c.in_ok-change.ensures.project_after)
           (subst (ChangesRow change) slice c.in_ok-change.ensures.row)
           edited_line answer_given.starts c.self.invariant.2 answer_given.room,
     )
@@ -103,7 +103,7 @@ of-edited_line-requires-clause-was c = subst (λ (g : List Declared). lowest_fau
 
 pub of-edited_line-requires-clause-is : goal.of-edited_line-requires-clause-is
 of-edited_line-requires-clause-is c =
-    subst (λ (g : List Declared). lowest_fault (groups_of (changed_groups c.in_ok-change.change g)) ≡ None) refl c.in_ok-change.ensures.unchanged
+    subst (λ (g : List Declared). lowest_fault (groups_of (changed_groups c.in_ok-change.change g)) ≡ None) refl c.in_ok-change.ensures.project_after
 
 pub of-edited_line-requires-clause-row : goal.of-edited_line-requires-clause-row
 of-edited_line-requires-clause-row c = subst (ChangesRow c.in_ok-change.change) refl c.in_ok-change.ensures.row

@@ -27,7 +27,7 @@ returns-then-self-clause-refused c =
     let change = c.in_ok-change.change in
     let slice = c.of-groups.ensures ∙ c.as_slice.ensures in
     let leads = subst (λ (g : List Declared). changed_groups change g ≡ groups_after g edit) slice c.in_ok-change.ensures.groups in
-    let is = subst (λ (g : List Declared). lowest_fault (groups_of (changed_groups change g)) ≡ None) slice c.in_ok-change.ensures.unchanged in
+    let is = subst (λ (g : List Declared). lowest_fault (groups_of (changed_groups change g)) ≡ None) slice c.in_ok-change.ensures.project_after in
     let moves = subst (λ (s : State). MovesNoBits s.groups edit) (sym c.self.view_is) c.requires in
     let same = change-alike groups change edit c.self.invariant.0 c.self.invariant.1 leads is moves in
     λ other.
@@ -50,7 +50,7 @@ invariant_of-result c =
     let report = c.in_ok-report.report in
     let slice = c.of-groups.ensures ∙ c.as_slice.ensures in
     let leads = subst (λ (g : List Declared). changed_groups change g ≡ groups_after g edit) slice c.in_ok-change.ensures.groups in
-    let is = subst (λ (g : List Declared). lowest_fault (groups_of (changed_groups change g)) ≡ None) slice c.in_ok-change.ensures.unchanged in
+    let is = subst (λ (g : List Declared). lowest_fault (groups_of (changed_groups change g)) ≡ None) slice c.in_ok-change.ensures.project_after in
     let own = subst (λ (g : List Declared). own_fault g edit ≡ None) slice c.in_ok-change.ensures.accepted in
     let made = subst (λ (g : List Declared). change_by g edit ≡ Some change) slice c.in_ok-change.ensures.change in
     let moves = subst (λ (s : State). MovesNoBits s.groups edit) (sym c.self.view_is) c.requires in
