@@ -125,7 +125,7 @@ answer-last : (history : History) (arrival : Arrival) (task d : ℕ) (found : Op
 answer-last history arrival task d None e good = cc
 answer-last history arrival task d (Some sending) e good =
     let first = (answers-first history arrival sending).0 e in
-    let at = first.is_placed in
+    let at = first.sent in
     let named = judged-good task d sending.since sending.heads arrival.parts good in
     let heads = ap (list_any (λ (head : Head). same_item (Datagram task d) head.item)) at.heads in
     ap (λ (h : History). frame_serial_now h task d) at.split

@@ -103,7 +103,7 @@ part_answered state start at datagram project is from =
     let item : given.item_name datagram.head.item ≡ is.named = ap (λ (head : Head). given.item_name head.item) is.head in
     let place : register_place datagram.head.item datagram.head.address ≡ (0, 0) = ap (λ (head : Head). register_place head.item head.address) is.head in
     let expected : expected_in table named ≡ datagram.head.expected =
-    ap (expected_in table) is.names ∙ same_expected state is.named project is.is_placed ∙ sym (ap (λ (head : Head). head.expected) is.head) in
+    ap (expected_in table) is.names ∙ same_expected state is.named project is.in_line ∙ sym (ap (λ (head : Head). head.expected) is.head) in
     ap (λ (one : ℕ). built one named (expected_in table named) got (start + 10) size (0, 0)) (same_kind (line state) is.named datagram.head datagram.part datagram.verdict is.head)
     ∙ ap (λ (one : ℕ). built kind named one got (start + 10) size (0, 0)) expected
     ∙ ap (λ (one : Named). built kind one datagram.head.expected got (start + 10) size (0, 0)) (is.names ∙ sym item)

@@ -85,7 +85,7 @@ agree-stale unchanged history taken arrival stale agree =
 all_sent : (history : History) → AreAccepted history → AllSent IsInLine history
 all_sent [] all = absurd all
 all_sent (Opened groups ∷ history) all = tt
-all_sent (Sent frame ∷ history) all = (all.0.is_placed, all_sent history all.1)
+all_sent (Sent frame ∷ history) all = (all.0.in_line, all_sent history all.1)
 all_sent (other ∷ history) all = all_sent history all.1
 
 -- one that answers a frame of tasks

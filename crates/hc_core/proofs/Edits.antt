@@ -242,7 +242,7 @@ agree-carried unchanged history taken planned changed inputs ages epochs outputs
     let prepared = can.prepared in
     let asked = edit.report.swap.edit in
     let accepted : edited (state_of history) asked ≡ Ok edit.new = subst (λ (state : State). edited state asked ≡ Ok edit.new) can.made prepared.accepted in
-    let answer_given : ReportsEdit (state_of history) asked edit.new edit.report = subst (λ (state : State). ReportsEdit state asked edit.new edit.report) can.made prepared.answer_given in
+    let answer_given : ReportsEdit (state_of history) asked edit.new edit.report = subst (λ (state : State). ReportsEdit state asked edit.new edit.report) can.made prepared.reported in
     let before : HoldsOutputValues moves.before (value_bit history) unchanged.outputs = subst (λ (table : Table). HoldsOutputValues table (value_bit history) unchanged.outputs) (sym can.table) agree.values in
     let carried : HoldsOutputValues (table_of (line edit.new)) (unchanged_over (table_of (line_of history)) (value_bit history)) outputs =
     subst (λ (table : Table). HoldsOutputValues (table_of (line edit.new)) (unchanged_over table (value_bit history)) outputs) can.table

@@ -37,7 +37,7 @@ answered_back history arrival back =
     let heads = data_heads (line_of back.before) back.frame in
     let either = answers-first history arrival (record { heads = heads; since = back.since }) in
     either.1 (record {
-      is_placed = record {
+      sent = record {
         before = back.before;
         entry = Sent back.frame;
         split = back.sent;
@@ -251,7 +251,7 @@ by_answer history arrival task d slot None e = inr (refl, λ m other good. let n
 by_answer history arrival task d slot (Some sending) e =
     let either = answers-first history arrival sending in
     let first = either.0 e in
-    let at = first.is_placed in
+    let at = first.sent in
     search (rules, by_entry)
 
 arrival_shows : (history : History) (arrival : Arrival) (task d : ℕ) (slot : Option (List ℕ)) → Shows history arrival task d slot (fold (renewed task d) slot (new_answer_by history arrival))

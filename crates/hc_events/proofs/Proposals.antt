@@ -101,14 +101,14 @@ answered_next (Some fault) answer_given none = cc
 
 pub frames-found : (history : History) (tasks : List ℕ) → IsNone (lowest (task_faults history tasks)) → AreSent history tasks
 frames-found history tasks none = record {
-  answer_given = answered_next (lowest (task_faults history tasks)) (answer.Sent (map (sent_text history) (proposal history tasks))) none;
+  answer = answered_next (lowest (task_faults history tasks)) (answer.Sent (map (sent_text history) (proposal history tasks))) none;
   found = found_unless history (with_sent history (proposal history tasks)) (lowest (task_faults history tasks)) (proposal history tasks) none
       (are_found history (with_sent history (proposal history tasks)) (proposal history tasks) (found_all (line_of history) history (proposal history tasks) refl (proposals-numbered history tasks)));
 }
 
 pub ready-found : (history : History) (tasks : List ℕ) → IsNone (lowest (ready_faults history tasks)) → AreReadySent history tasks
 ready-found history tasks none = record {
-  answer_given = answered_next (lowest (ready_faults history tasks)) (answer.Sent (map (sent_text history) (proposal history tasks))) none;
+  answer = answered_next (lowest (ready_faults history tasks)) (answer.Sent (map (sent_text history) (proposal history tasks))) none;
   found = found_unless history (with_sent history (proposal history tasks)) (lowest (ready_faults history tasks)) (proposal history tasks) none
       (are_found history (with_sent history (proposal history tasks)) (proposal history tasks) (found_all (line_of history) history (proposal history tasks) refl (proposals-numbered history tasks)));
 }
@@ -127,7 +127,7 @@ written_by history (block ∷ rest) owed none =
       block = block;
       rest = rest;
       first = owed;
-      answer_given = answered_next (lowest (write_faults history (owed_blocks history))) (sent_write_answer (next_serial history) (owed_blocks history)) accepted
+      answer = answered_next (lowest (write_faults history (owed_blocks history))) (sent_write_answer (next_serial history) (owed_blocks history)) accepted
           ∙ ap (sent_write_answer (next_serial history)) owed;
       found = ap (λ after. sending_of after (next_serial history))
           (unchanged_next history (with_write history (owed_blocks history)) (lowest (write_faults history (owed_blocks history))) accepted ∙ ap (with_write history) owed)
@@ -156,7 +156,7 @@ write-frames-found history none =
     let some = frame-some history none in
     record {
       some = some;
-      answer_given = answered_next (lowest (write_faults history (owed_blocks history))) (writes_answer (next_serial history) blocks) none;
+      answer = answered_next (lowest (write_faults history (owed_blocks history))) (writes_answer (next_serial history) blocks) none;
       found = ap (λ after. sending_of after (next_serial history)) (unchanged_next history (with_writes history blocks) (lowest (write_faults history (owed_blocks history))) none ∙ written_next history blocks some)
           ∙ found-under [] history (Wrote blocks) refl refl;
     }

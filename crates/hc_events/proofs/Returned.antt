@@ -144,6 +144,6 @@ returns-well since entry before parts bytes back can leaves =
       read = read;
       answered = found;
       judged = judged_so;
-      answer_given = ap (arrival_answer (since ++ entry ∷ before)) read ∙ ap judged_answer judged_so;
+      answer = ap (arrival_answer (since ++ entry ∷ before)) read ∙ ap judged_answer judged_so;
       good_answers = ap (λ answer. flat_map new_answer (option_map_or (judged arrival) answer [])) found ∙ entry_data since before entry parts;
     }

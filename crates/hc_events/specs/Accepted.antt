@@ -23,7 +23,7 @@ IsInLine line named = named.1 < datagram_count (task_places named.0 line)
 
 -- a post of a task that there is, with as many bytes as the task has outputs
 pub record IsPost (line : List Member) (task : ℕ) (bytes : List ℕ) : Type 0 where
-  pub is_placed : task < TASKS
+  pub in_range : task < TASKS
   pub fits : length bytes ≡ output_length (task_places task line)
 
 -- the frames where tasks are sent, by their datagrams
@@ -33,7 +33,7 @@ frames_of line serial tasks = map (λ sending. sending.datagrams) (sendings_of l
 -- one of the frames where a list of tasks is sent, of datagrams of the line, while nothing is owed, or each task that it carries is ready
 pub record IsFrame (history : History) (frame : List Named) : Type 0 where
   pub programmed : (owed_blocks history ≡ []) ⊎ All (λ (named : Named). is_ready history named.0 ≡ true) frame
-  pub is_placed : All (IsInLine (line_of history)) frame
+  pub in_line : All (IsInLine (line_of history)) frame
   pub tasks : List ℕ
   pub serial : ℕ
   pub one : Contains (frames_of (line_of history) serial tasks) frame

@@ -34,7 +34,7 @@ LeavesAwaited serial heads entry = Unit {0}
 
 -- an arrival is the first answer to a sending: it has the sending's serial and, datagram for datagram, its commands, addresses and lengths, and each entry since left the sending open
 pub record IsFirstAnswer (history : History) (arrival : Arrival) (sending : Sending) : Type 0 where
-  pub is_placed : IsSendingAt history arrival.serial sending
+  pub sent : IsSendingAt history arrival.serial sending
   pub fits : has_heads sending.heads arrival.parts ≡ true
   pub left_open : All (LeavesAwaited arrival.serial sending.heads) sending.since
 
@@ -166,7 +166,7 @@ pub record ReturnsWell (since : List HistoryEntry) (entry : HistoryEntry) (befor
   pub judged :
       judged_by (since ++ entry ∷ before) (record { serial = next_serial before; parts = parts })
       ≡ map (judge since) (zip (heads_of before entry) parts)
-  pub answer_given : answer_to (since ++ entry ∷ before) (Arrives bytes) ≡ judged_answer (map (judge since) (zip (heads_of before entry) parts))
+  pub answer : answer_to (since ++ entry ∷ before) (Arrives bytes) ≡ judged_answer (map (judge since) (zip (heads_of before entry) parts))
   pub good_answers : new_answer_by (since ++ entry ∷ before) (record { serial = next_serial before; parts = parts }) ≡ good_parts since (line_of before) entry parts
 
 -- a frame of tasks or a register write that comes back from the line, whatever its slaves made of its data and its counters and whatever was recorded since its sending, as long as that left it open

@@ -32,7 +32,7 @@ update_in (change.Good good) = Answered good
 
 -- a datagram of the state, and data of its length
 pub record IsAnswerIn (state : State) (task d : ℕ) (bytes : List ℕ) : Type 0 where
-  pub is_placed : d < datagram_count (task_places task (line state))
+  pub in_line : d < datagram_count (task_places task (line state))
   pub fits : length bytes ≡ datagram_length (task_places task (line state)) d
 
 -- an edit that the state accepts, and the table of the state that it leads to
@@ -81,5 +81,5 @@ SwapsLeadFrom state (change.Good good ∷ changes) = SwapsLeadFrom state changes
 
 -- these are the changes that a record of a project gives
 pub record AreChangesOf (groups : List Group) (history : History) (changes : List Change) : Type 0 where
-  pub answer_given : map update_in changes ≡ updates_of history
+  pub updates : map update_in changes ≡ updates_of history
   pub lead : SwapsLeadFrom (opened groups) changes

@@ -34,7 +34,7 @@ AddressesAreThoseSent = (history : History) (arrival : Arrival) → All HasItsAd
 -- a datagram that came back is a task's in the line, which says of it what the sending said, and its own address names it
 pub record IsNamedByAddress (line : List Member) (datagram : Judged) : Type 0 where
   pub named : Named
-  pub is_placed : IsInLine line named
+  pub in_line : IsInLine line named
   pub head : datagram.head ≡ data_head line named
   pub names : named_at datagram.part.address ≡ named
 

@@ -37,7 +37,7 @@ BothEventsSendAlike =
 
 -- after an accepted sending of ready tasks the answer has the texts of the proposal's frames, and each of these is the sending with its own serial
 pub record AreReadySent (history : History) (tasks : List ℕ) : Type 0 where
-  pub answer_given : answer_to history (SendsReady tasks) ≡ answer.Sent (map (sent_text history) (proposal history tasks))
+  pub answer : answer_to history (SendsReady tasks) ≡ answer.Sent (map (sent_text history) (proposal history tasks))
   pub found : All (IsFound history (entries_after history (SendsReady tasks))) (proposal history tasks)
 
 -- so it is with every sending of ready tasks that has no fault

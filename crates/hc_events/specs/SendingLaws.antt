@@ -77,7 +77,7 @@ pub record IsFound (history after : History) (frame : Frame) : Type 0 where
 
 -- the answer has the texts of the proposal's frames, and each of these is found
 pub record AreSent (history : History) (tasks : List ℕ) : Type 0 where
-  pub answer_given : answer_to history (SendsTasks tasks) ≡ answer.Sent (map (sent_text history) (proposal history tasks))
+  pub answer : answer_to history (SendsTasks tasks) ≡ answer.Sent (map (sent_text history) (proposal history tasks))
   pub found : All (IsFound history (entries_after history (SendsTasks tasks))) (proposal history tasks)
 
 -- so it is with every sending of tasks that has no fault
@@ -89,7 +89,7 @@ pub record BlockIsWritten (history : History) : Type 0 where
   pub block : LineBlock
   pub rest : List LineBlock
   pub first : owed_blocks history ≡ block ∷ rest
-  pub answer_given : answer_to history SendsWrite ≡ answer.WriteSent (write_text (next_serial history) block)
+  pub answer : answer_to history SendsWrite ≡ answer.WriteSent (write_text (next_serial history) block)
   pub found : sending_of (entries_after history SendsWrite) (next_serial history) ≡ Some (sending_of_heads (write_head block ∷ []))
 
 -- so it is with every write that has no fault
@@ -99,7 +99,7 @@ SentWritesAreFound = (history : History) → IsNone (lowest (write_faults histor
 -- an accepted frame of register writes writes the first owed blocks, at least one, as many as one frame holds; it has the serial that was next
 pub record BlocksAreWritten (history : History) : Type 0 where
   pub some : 0 < length (frame_blocks (owed_blocks history))
-  pub answer_given : answer_to history SendsWrites ≡ writes_answer (next_serial history) (frame_blocks (owed_blocks history))
+  pub answer : answer_to history SendsWrites ≡ writes_answer (next_serial history) (frame_blocks (owed_blocks history))
   pub found : sending_of (entries_after history SendsWrites) (next_serial history) ≡ Some (sending_of_heads (write_heads (frame_blocks (owed_blocks history))))
 
 -- so it is with every such frame that has no fault

@@ -37,7 +37,7 @@ pub record IsGoodAnswer (history : History) (good : NewAnswer) : Type 0 where
   pub answered : answered_by before arrival ≡ Some sending
   pub head : Head
   pub part : Part
-  pub is_placed : Contains (zip sending.heads arrival.parts) (head, part)
+  pub paired : Contains (zip sending.heads arrival.parts) (head, part)
   pub item : head.item ≡ Datagram good.task good.datagram
   pub newest : list_any (sends head.item) sending.since ≡ false
   pub counter : part.counter ≡ head.expected

@@ -218,8 +218,8 @@ moved-alike groups station index to member project uncrowded project' found bare
             ∙ ap (λ (vs : List VariableRow). record { tasks = map (task_table old) tasks; variables = by_number vs }) rows;
         recut = recut_none;
         blocks = blocks-same groups moved (layout_of old) station index to (record {
-          was = record { project = project; uncrowded = uncrowded; is_placed = refl };
-          is = record { project = project'; uncrowded = crowds ∙ uncrowded; is_placed = sym layout };
+          was = record { project = project; uncrowded = uncrowded; of_line = refl };
+          is = record { project = project'; uncrowded = crowds ∙ uncrowded; of_line = sym layout };
           line = line;
         }) none;
       };

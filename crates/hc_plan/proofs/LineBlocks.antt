@@ -29,7 +29,7 @@ use Rattle.hc_plan.proofs.Numbered.{get-numbered-from-0, numbered-get}
 pub layout-slaves : (groups : List Declared) (layout : List (List Placed)) → IsLayoutOf groups layout → All (IsMappedSlave layout) (line_from 1 groups)
 layout-slaves groups layout known j d inside =
     let member = slice_index_or (line_from 1 groups) j d in
-    subst (λ (l : List (List Placed)). IsMappedSlave l member) (sym known.is_placed)
+    subst (λ (l : List (List Placed)). IsMappedSlave l member) (sym known.of_line)
     (slave-mapped groups j member known.project (slice_get-get_or (line_from 1 groups) j d inside))
 
 pub found-mapped : (groups : List Declared) (layout : List (List Placed)) (test : Member → Bool) (member : Member) → IsLayoutOf groups layout

@@ -62,7 +62,7 @@ is-prepared old work it edit report blocks project fits changes same =
     (λ answer_given accepted uncrowded moved. record {
       project = project;
       accepted = subst (λ (e : Edit). edited old e ≡ Ok new) (sym answer_given.named) accepted;
-      answer_given = subst (λ (e : Edit). ReportsEdit old e new report) (sym answer_given.named) answer_given;
+      reported = subst (λ (e : Edit). ReportsEdit old e new report) (sym answer_given.named) answer_given;
       crowds = (fits, uncrowded);
       blocks = moved;
       differ = subst (Differ (places old) (places new) (gone_of change)) (sym moved) (edits-differ old new edit change project accepted changes);
@@ -90,7 +90,7 @@ declared-prepared old edit declaration report project fits more is named free no
     record {
       project = project;
       accepted = ap (edited old) asked ∙ declared-accepted old group fits more free;
-      answer_given = subst (λ (e : Edit). ReportsEdit old e new report) (sym named) (nothing new alike refl);
+      reported = subst (λ (e : Edit). ReportsEdit old e new report) (sym named) (nothing new alike refl);
       crowds = (fits, ap over_limit_task same ∙ fits);
       blocks = sym (none-ranked (line old) (line new) alike);
       differ = declared-differ old group;
@@ -117,7 +117,7 @@ task-prepared old edit change report project fits more changes own made leads sa
     record {
       project = project;
       accepted = subst (λ (e : Edit). edited old e ≡ Ok new) (sym named) accepted;
-      answer_given = subst (λ (e : Edit). ReportsEdit old e new report) (sym named) (nothing new same.alike refl);
+      reported = subst (λ (e : Edit). ReportsEdit old e new report) (sym named) (nothing new same.alike refl);
       crowds = (fits, uncrowded);
       blocks = none;
       differ = subst (Differ (places old) (places new) (gone_of change)) (sym none) (edits-differ old new edit change project accepted made);

@@ -84,6 +84,6 @@ moved-count it blocks is = sym (length-map blocks (λ (block : RankedBlock). blo
 pub moved-few : (it : EditedLine) (blocks : List RankedBlock) → IsEditedLine it → over_limit_task (line_from 1 it.new) ≡ None
     → blocks ≡ moved_ranked (line_from 1 it.old) (line_from 1 it.new) → length blocks < 4294967296
 moved-few it blocks is fits moved =
-    let few = few-moved it.new (layout_of (line_from 1 it.new)) (line_from 1 it.old) (record { project = is.is_project; uncrowded = fits; is_placed = refl }) in
+    let few = few-moved it.new (layout_of (line_from 1 it.new)) (line_from 1 it.old) (record { project = is.is_project; uncrowded = fits; of_line = refl }) in
     let count = moved-count it blocks moved in
     omega (arith, few, count)

@@ -124,7 +124,7 @@ found-share groups layout task datagram station member known low found =
     let state : State = record { groups = groups; epoch = 0 } in
     let has = (find-holds (Contains members) (is_at station) members member found (All-contains_itself members)).0 in
     ap (option_map (λ (m : Member). counter_share (datagram_keys members task datagram) m.rank)) found
-    ∙ sym (ap Some (ap (λ (l : List (List Placed)). share_in l (task, datagram) member.rank member.slave.areas) known.is_placed ∙ share-listed state task datagram member low has))
+    ∙ sym (ap Some (ap (λ (l : List (List Placed)). share_in l (task, datagram) member.rank member.slave.areas) known.of_line ∙ share-listed state task datagram member low has))
 
 -- the law
 

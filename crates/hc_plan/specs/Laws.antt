@@ -17,7 +17,7 @@ BlocksAreConfigured =
 
 -- a line is configured with a block's bytes at its register of its slave, and with no others there
 pub record IsConfiguredIn (line : List Member) (found : LineBlock) : Type 0 where
-  pub is_placed : (number : ℕ) × Contains (config line).blocks (record found { number = number })
+  pub configured : (number : ℕ) × Contains (config line).blocks (record found { number = number })
   pub alone : (other : LineBlock) → Contains (config line).blocks other → other.station ≡ found.station → other.block.register ≡ found.block.register
       → other.block ≡ found.block
 

@@ -22,7 +22,7 @@ pub record PreparedEdit : Type 0 where
 pub record IsPrepared (prepared : PreparedEdit) : Type 0 where
   pub project : lowest_fault (groups_of prepared.old.groups) ≡ None
   pub accepted : edited prepared.old prepared.report.swap.edit ≡ Ok prepared.new
-  pub answer_given : ReportsEdit prepared.old prepared.report.swap.edit prepared.new prepared.report
+  pub reported : ReportsEdit prepared.old prepared.report.swap.edit prepared.new prepared.report
   pub crowds : (over_limit_task (line prepared.old) ≡ None) × (over_limit_task (line prepared.new) ≡ None)
   pub blocks : prepared.blocks ≡ moved_ranked (line prepared.old) (line prepared.new)
   pub differ : Differ (places prepared.old) (places prepared.new) prepared.gone prepared.blocks

@@ -25,7 +25,7 @@ answer_is_placed state task datagram bytes low found long =
     let at = table-at (line state) task low in
     let listed = sym (ap (option_and_then (λ (table : TaskTable). slice_get table.datagrams 0)) at) ∙ found in
     let first = first_listed (line state) task (datagram_count (task_places task (line state))) datagram listed in
-    record { is_placed = first.0; fits = long ∙ first.1 }
+    record { in_line = first.0; fits = long ∙ first.1 }
 
 -- data of its length, which are said of it, are legal
 pub first_answer_is_legal : (state : State) (task : ℕ) (table : Table) (datagram : Datagram) (bytes : List ℕ) (good : NewAnswer) → task < TASKS → table ≡ table_of (line state)

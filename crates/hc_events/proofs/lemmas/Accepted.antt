@@ -123,7 +123,7 @@ accepted_post history task epoch bytes e =
     let first = passed (is_no_task task) NoSuchTask ((not (epoch == epoch_of history), StalePost) ∷ lengths) e in
     let second = passed (not (epoch == epoch_of history)) StalePost lengths first.1 in
     let third = passed (not (length bytes == output_length (task_places task (line_of history)))) PostLength [] second.1 in
-    record { is_placed = ltb-true task TASKS (not-false _ first.0); fits = eqb-true _ _ (not-false _ third.0) }
+    record { in_range = ltb-true task TASKS (not-false _ first.0); fits = eqb-true _ _ (not-false _ third.0) }
 
 accepted_steady_post : (history : History) (task epoch : ℕ) (bytes : List ℕ) → lowest (post_steady_faults history task epoch bytes) ≡ None → IsPost (line_of history) task bytes
 accepted_steady_post history task epoch bytes e =
@@ -131,7 +131,7 @@ accepted_steady_post history task epoch bytes e =
     let first = passed (is_no_task task) NoSuchTask ((is_stale_epoch history task epoch, StalePost) ∷ lengths) e in
     let second = passed (is_stale_epoch history task epoch) StalePost lengths first.1 in
     let third = passed (not (length bytes == output_length (task_places task (line_of history)))) PostLength [] second.1 in
-    record { is_placed = ltb-true task TASKS (not-false _ first.0); fits = eqb-true _ _ (not-false _ third.0) }
+    record { in_range = ltb-true task TASKS (not-false _ first.0); fits = eqb-true _ _ (not-false _ third.0) }
 
 some_of : (found : Option Member) → is_none found ≡ false → is_some found ≡ true
 some_of None e = cc
@@ -209,7 +209,7 @@ keeps_sent P stays line serial tasks (sending ∷ sendings) history same can are
     (stays history (Sent sending.datagrams)
     (record {
       programmed = All-head (CanGo history) sending sendings can;
-      is_placed = subst (λ members. All (IsInLine members) sending.datagrams) (sym same) (All-head (ArePlaced line) sending sendings are_placed);
+      in_line = subst (λ members. All (IsInLine members) sending.datagrams) (sym same) (All-head (ArePlaced line) sending sendings are_placed);
       tasks = tasks;
       serial = serial;
       one = subst (λ members. Contains (frames_of members serial tasks) sending.datagrams) (sym same) (All-head (Contains (frames_of line serial tasks)) sending.datagrams frames are);

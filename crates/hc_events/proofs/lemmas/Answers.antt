@@ -92,14 +92,14 @@ first_answer history arrival sending e =
     let both = and_parts (fits_sending arrival.serial sending.heads arrival) _ found.1 in
     let at = is_placed-at history arrival.serial sending found.0 in
     record {
-      is_placed = at;
+      sent = at;
       fits = (and_parts (arrival.serial == arrival.serial) _ both.0).1;
       left_open = still_open arrival.serial sending.heads sending.since at.running (not-true _ both.1);
     }
 
 answer_first : (history : History) (arrival : Arrival) (sending : Sending) → IsFirstAnswer history arrival sending → answered_by history arrival ≡ Some sending
 answer_first history arrival sending first =
-    chosen (is_answer arrival) (sending_of history arrival.serial) sending (standing-found history arrival.serial sending first.is_placed)
+    chosen (is_answer arrival) (sending_of history arrival.serial) sending (standing-found history arrival.serial sending first.sent)
     (answer-is arrival sending first.fits (none-ends arrival.serial sending.heads sending.since first.left_open))
 
 pub answers-first : (history : History) (arrival : Arrival) (sending : Sending) → (answered_by history arrival ≡ Some sending → IsFirstAnswer history arrival sending) × (IsFirstAnswer history arrival sending → answered_by history arrival ≡ Some sending)
@@ -188,13 +188,13 @@ heads_of_line before (Forgot station) sends accepted = cc
 heads_of_line before (Cleared station) sends accepted = cc
 heads_of_line before (Unplugged station) sends accepted = cc
 heads_of_line before (Came arrival) sends accepted = cc
-heads_of_line before (Sent frame) sends accepted = frame_of_line (line_of before) frame accepted.is_placed
+heads_of_line before (Sent frame) sends accepted = frame_of_line (line_of before) frame accepted.in_line
 heads_of_line before (Wrote blocks) sends accepted =
     writes_of_line (line_of before) blocks (written-inside before blocks accepted)
 
 of-line : (history : History) (arrival : Arrival) (sending : Sending) → AreAccepted history → IsFirstAnswer history arrival sending → All (IsHeadOf (line_of history)) sending.heads
 of-line history arrival sending all first =
-    let at = first.is_placed in
+    let at = first.sent in
     let accepted = accepted-at sending.since at.before at.entry at.running at.sends (subst AreAccepted at.split all) in
     let line : line_of history ≡ line_of at.before =
     ap line_of at.split ∙ same_line arrival.serial sending.heads sending.since (at.entry ∷ at.before) first.left_open ∙ same_sent at.before at.entry at.sends in

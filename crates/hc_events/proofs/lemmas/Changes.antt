@@ -311,7 +311,7 @@ legal_good_answers : (state : State) (good_answers : List NewAnswer) → All (Fi
 legal_good_answers state [] all = tt
 legal_good_answers state (good ∷ good_answers) all =
     let fit = All-head (FitsNewAnswer IsInLine (line state)) good good_answers all in
-    (record { is_placed = fit.1; fits = fit.0 }, legal_good_answers state good_answers (All-tail (FitsNewAnswer IsInLine (line state)) good good_answers all))
+    (record { in_line = fit.1; fits = fit.0 }, legal_good_answers state good_answers (All-tail (FitsNewAnswer IsInLine (line state)) good good_answers all))
 
 not_refused : (fault : Option EditFault) (next : State) → fault ≡ None → IsOk (refused_by fault next)
 not_refused None next e = refl
@@ -339,7 +339,7 @@ legal_grows groups history (Cleared station) accepted before =
 legal_grows groups history (Unplugged station) accepted before =
     record { follows = follows_grows groups history (Unplugged station) accepted before.follows; sent = before.sent; legal = before.legal }
 legal_grows groups history (Sent frame) accepted before =
-    record { follows = follows_grows groups history (Sent frame) accepted before.follows; sent = (accepted.is_placed, before.sent); legal = before.legal }
+    record { follows = follows_grows groups history (Sent frame) accepted before.follows; sent = (accepted.in_line, before.sent); legal = before.legal }
 legal_grows groups history (Wrote blocks) accepted before =
     record { follows = follows_grows groups history (Wrote blocks) accepted before.follows; sent = before.sent; legal = before.legal }
 legal_grows groups history (Came arrival) accepted before = record {
@@ -376,4 +376,4 @@ legal_opening groups = record { follows = record { slots = λ task d. refl; stat
 pub changes-are_legal : (history : History) (changes : List Change) → AreAccepted history → AreChangesOf (opened_with history) history changes → AreLegalFrom (opened (opened_with history)) changes
 changes-are_legal history changes all are =
     let legal = (held-of_accepted LegalOwn legal_more legal_opening history all).legal in
-    legal_answered (opened (opened_with history)) changes (subst (LegalUpdates (opened (opened_with history))) (sym are.answer_given) legal) are.lead
+    legal_answered (opened (opened_with history)) changes (subst (LegalUpdates (opened (opened_with history))) (sym are.updates) legal) are.lead

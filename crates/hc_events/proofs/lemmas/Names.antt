@@ -70,7 +70,7 @@ named_item : (line : List Member) (since : List HistoryEntry) (head : Head) (par
 named_item line since head part (Block station number) few there is plain same = cc
 named_item line since head part (Datagram task d) few there is plain same = record {
   named = (task, d);
-  is_placed = is.0;
+  in_line = is.0;
   head = is.1;
   names = name_back task d part.address (few (task, d) is.0) (same ∙ ap (λ (one : Head). one.address) is.1);
 }
@@ -126,7 +126,7 @@ named_by_answer : (history : History) (arrival : Arrival) (outcomes : List Outco
 named_by_answer history arrival outcomes None all few is answer_given = All-nil (IsNamedByAddress (line_of history))
 named_by_answer history arrival outcomes (Some sending) all few is answer_given =
     let first = (answers-first history arrival sending).0 is in
-    let at = first.is_placed in
+    let at = first.sent in
     all_named (line_of history) sending.since sending.heads arrival.parts few (answered-of_line history arrival sending all is)
     (plain_by at.before at.entry sending.since sending.heads arrival.parts outcomes at.sends at.heads answer_given) first.fits
 

@@ -238,6 +238,6 @@ frame-carried history frame serial low can accepted =
     record {
       some = omega (arith, found.some, length-names history frame);
       low = low;
-      fits = names-fit history frame can accepted.is_placed;
+      fits = names-fit history frame can accepted.in_line;
       within = omega (arith, found.within, names-text history frame);
     }

@@ -157,7 +157,7 @@ ready-good history frame wire of_record holds ready =
     let machines = wire_machines wire in
     let long = sizes members (slice_index_or frame 0 (0, 0)).0 wire (each (slice_index_or frame 0 (0, 0)) first) in
     let returned = shared-returned machines serial (map (addressed history) frame) long (frame-carried history frame serial (omega arith) can is_frame) in
-    let all = all-good history frame frame wire can (λ named has. has) is_frame.is_placed carries in
+    let all = all-good history frame frame wire can (λ named has. has) is_frame.in_line carries in
     let parts = datagrams_after_machines machines (map (addressed history) frame) in
     let back : IsReturned serial (map (sent_datagram history) frame) parts (frame_through machines (frame_text serial (map (sent_datagram history) frame))) =
     subst (λ (ds : List Datagram). IsReturned serial ds parts (frame_through machines (frame_text serial ds))) (addressed-text history frame) returned.back in

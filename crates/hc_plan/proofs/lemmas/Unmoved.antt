@@ -38,7 +38,7 @@ stays groups new found none unnamed at =
     let stood : Contains (line_blocks old) before = (some.0, some.2, some.3) in
     let same : before ≡ record found { number = before.number } = same-is found before some.4 in
     record {
-      is_placed = (before.number, subst (Contains (line_blocks old)) same stood);
+      configured = (before.number, subst (Contains (line_blocks old)) same stood);
       alone = λ other contained station register.
           one-block groups other before none contained stood
           (station ∙ sym (ap (λ (block : LineBlock). block.station) same))

@@ -15,7 +15,7 @@ pub record Makes (edit : Edit) (table : Table) (edited_line : EditedLine) : Type
   pub own : own_fault edited_line.old edit ≡ None
   pub leads : edited_line.new ≡ groups_after edited_line.old edit
   pub fits : over_limit_task (line_from 1 edited_line.old) ≡ None
-  pub is_placed : table ≡ table_of (line_from 1 edited_line.old)
+  pub of_old : table ≡ table_of (line_from 1 edited_line.old)
 
 -- the states before an edit of a line and after it, by the epoch that the line has before it
 

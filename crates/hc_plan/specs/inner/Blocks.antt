@@ -56,7 +56,7 @@ slave_blocks_in layout member = flat_map (area_blocks_in layout member.rank) (en
 pub record IsLayoutOf (groups : List Declared) (layout : List (List Placed)) : Type 0 where
   pub project : lowest_fault (groups_of groups) ≡ None
   pub uncrowded : over_limit_task (line_from 1 groups) ≡ None
-  pub is_placed : layout ≡ layout_of (line_from 1 groups)
+  pub of_line : layout ≡ layout_of (line_from 1 groups)
 
 -- a slave of the line that a layout is of
 pub record IsMappedSlave (layout : List (List Placed)) (member : Member) : Type 0 where

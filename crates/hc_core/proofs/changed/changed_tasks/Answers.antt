@@ -42,7 +42,7 @@ returns c = λ task low.
     let new = line edit.new in
     let said = edit.report.swap.change in
     let change : c.report.result.now.swap.change ≡ said = ap (λ (report : Report). report.swap.change) c.report.ensures.report in
-    let says = c.requires.prepared.answer_given.says in
+    let says = c.requires.prepared.reported.says in
     let rows = subst (λ (ch : Change). ChangesAscend ch.rows) change c.places_changed.ensures.ascends in
     either-has task c.with.result c.args.blocks c.with-2.result low c.with-2.ensures
     ∙ ap₂ (λ (a b : Bool). a || b)

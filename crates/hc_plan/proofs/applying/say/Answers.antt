@@ -13,8 +13,8 @@ of-requires-clause-once c =
     let rows = c.in_ok-rows.rows.items in
     let tasks = c.in_ok-tasks.tasks.items in
     answer_given-once it tasks rows c.requires.edit.is
-    (tasks-differ it c.args.places.now c.args.known.now c.args.cuts.now tasks c.requires.edit.is c.requires.edit.is_placed c.requires.known c.requires.trees c.in_ok-tasks.ensures.says)
-    (answer_given-rows it c.args.places.now c.in_ok-candidates.candidates.items c.as_slice-found.result.now c.change.result.now rows c.requires.edit.is_placed
+    (tasks-differ it c.args.places.now c.args.known.now c.args.cuts.now tasks c.requires.edit.is c.requires.edit.of_old c.requires.known c.requires.trees c.in_ok-tasks.ensures.says)
+    (answer_given-rows it c.args.places.now c.in_ok-candidates.candidates.items c.as_slice-found.result.now c.change.result.now rows c.requires.edit.of_old
     c.in_ok-candidates.ensures c.as_slice-found.ensures.value c.change.ensures c.in_ok-rows.ensures)
 
 pub returns-clause-leads : goal.returns-clause-leads
@@ -23,8 +23,8 @@ returns-clause-leads c =
     let rows = c.in_ok-rows.rows.items in
     let tasks = c.in_ok-tasks.tasks.items in
     answer_given-leads it tasks rows c.in_ok-swap.swap c.requires.edit.is
-    (tasks-differ it c.args.places.now c.args.known.now c.args.cuts.now tasks c.requires.edit.is c.requires.edit.is_placed c.requires.known c.requires.trees c.in_ok-tasks.ensures.says)
-    (answer_given-rows it c.args.places.now c.in_ok-candidates.candidates.items c.as_slice-found.result.now c.change.result.now rows c.requires.edit.is_placed
+    (tasks-differ it c.args.places.now c.args.known.now c.args.cuts.now tasks c.requires.edit.is c.requires.edit.of_old c.requires.known c.requires.trees c.in_ok-tasks.ensures.says)
+    (answer_given-rows it c.args.places.now c.in_ok-candidates.candidates.items c.as_slice-found.result.now c.change.result.now rows c.requires.edit.of_old
     c.in_ok-candidates.ensures c.as_slice-found.ensures.value c.change.ensures c.in_ok-rows.ensures)
     c.in_ok-swap.ensures.leads
 

@@ -110,7 +110,7 @@ returns-clause-answer c =
     let prepared = can.prepared in
     c.judged_answer-answer_given.ensures
     ∙ ap (λ (report : Report). answer.Edited report.epoch report.recut report.moved) c.carry_out-report.ensures.report
-    ∙ edited-answer_given edit.old edit.new asked edit.report prepared.accepted prepared.answer_given
+    ∙ edited-answer_given edit.old edit.new asked edit.report prepared.accepted prepared.reported
     ∙ ap (λ (state : State). edit_answer state (state_after state asked)) can.made
     ∙ ap (λ (core : CoreState). edit_answer (state_of core.history) (state_after (state_of core.history) asked)) c.self.view_is
 

@@ -8,7 +8,7 @@ use Rattle.hc_core.proofs.keeping.Core.post.Goals as goal
 
 pub take_post-requires : goal.take_post-requires
 take_post-requires c = record {
-  is_placed = omega (arith, c.if-task-ge-TASKS.false);
+  in_range = omega (arith, c.if-task-ge-TASKS.false);
   fits =
       eqb-true (length c.args.bytes.now) (output_length (task_places c.args.task (line_of c.args.self.now.history)))
       (sym c.fits_outputs.ensures ∙ c.if-not-fits_outputs.false);

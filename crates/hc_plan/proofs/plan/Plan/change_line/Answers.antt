@@ -65,7 +65,7 @@ invariant_of-self c =
       subst (λ (g : List Declared). over_limit_task (line_from 1 g) ≡ None) (sym same) c.requires.prepared.crowds.1,
       c.carry_out-2.ensures
           ∙ ap (swapped c.args.report.now.swap.change) (c.self.invariant.2 ∙ ap (λ (s : State). table_of (line s)) c.self.view_is)
-          ∙ c.requires.prepared.answer_given.leads
+          ∙ c.requires.prepared.reported.leads
           ∙ ap (λ (g : List Declared). table_of (line_from 1 g)) (sym same),
       c.apply_known_widths.ensures ∙ ap (λ (g : List Declared). line_cuts (areas_by_rank g)) new,
       subst (λ (g : List Declared). IsIndexOf g c.follow.new.self) (ap (changed_groups change) c.as_slice-2.ensures ∙ sym made) c.follow.ensures,
