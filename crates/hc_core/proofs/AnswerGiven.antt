@@ -192,7 +192,7 @@ written-done datagrams e =
     record {
       updates = ap (list_any is_current) single.split ∙ ap (λ b. b || false) (done_updates single.one.verdict single.verdict);
       blocks = ap (list_any (λ datagram. is_block datagram.head.item)) single.split ∙ ap (λ b. b || false) single.block;
-      answer_given = ap (λ one. one ∷ []) (sym (block_outcome single.one.head.item single.one.head single.one.part single.one.verdict refl single.block single.verdict)) ∙ sym (ap (map outcome_for) single.split);
+      exact = ap (λ one. one ∷ []) (sym (block_outcome single.one.head.item single.one.head single.one.part single.one.verdict refl single.block single.verdict)) ∙ sym (ap (map outcome_for) single.split);
     }
 
 pub written-missed : (datagrams : List Judged) → judged_answer datagrams ≡ answer.WriteMissed → AreWriteOutcomes datagrams (Missed ∷ [])
@@ -201,7 +201,7 @@ written-missed datagrams e =
     record {
       updates = ap (list_any is_current) single.split ∙ ap (λ b. b || false) (missed_updates single.one.verdict single.verdict);
       blocks = ap (list_any (λ datagram. is_block datagram.head.item)) single.split ∙ ap (λ b. b || false) single.block;
-      answer_given = ap (λ one. one ∷ []) (sym (missed_outcome single.one.head.item single.one.head single.one.part single.one.verdict refl single.block single.verdict)) ∙ sym (ap (map outcome_for) single.split);
+      exact = ap (λ one. one ∷ []) (sym (missed_outcome single.one.head.item single.one.head single.one.part single.one.verdict refl single.block single.verdict)) ∙ sym (ap (map outcome_for) single.split);
     }
 
 same_written : (a b : List Outcome) → answer.Written a ≡ answer.Written b → a ≡ b
@@ -218,7 +218,7 @@ several_of first (next ∷ rest) outcomes t e =
     record {
       updates = u;
       blocks = ap (λ b. b || list_any (λ datagram. is_block datagram.head.item) (next ∷ rest)) t;
-      answer_given = sym (same_written _ outcomes same);
+      exact = sym (same_written _ outcomes same);
     })
     (λ u. let never : answer.Stale ≡ answer.Written outcomes = rw u at e in cc)
 

@@ -233,8 +233,8 @@ agree-written unchanged history taken arrival outcomes owed readiness written wi
       values = values-came history arrival unchanged.outputs agree.values;
       known = confirmed
           ∙ unchanged-alike (known_done (state_of history) blocks outcomes (known_bytes history)) (known_bytes (Came arrival ∷ history)) (state_of history)
-          (λ station number. sym (known-written history arrival with.since blocks outcomes agree.project agree.accepted with.judged_as written.answer_given station number));
-      ready = areas-written readiness history arrival with.since blocks outcomes agree.project agree.accepted with.judged_as written.answer_given ready;
+          (λ station number. sym (known-written history arrival with.since blocks outcomes agree.project agree.accepted with.judged_as written.exact station number));
+      ready = areas-written readiness history arrival with.since blocks outcomes agree.project agree.accepted with.judged_as written.exact ready;
       shows = updates-none taken history arrival unchanged.changes shows.none agree.shows;
     }
 

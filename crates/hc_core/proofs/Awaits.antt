@@ -29,31 +29,31 @@ IsPlaced state write = All (IsAwaitedAt state) write.blocks
 -- nothing is awaited at the opening, and after an accepted edit
 
 pub waits-opened : (groups : List Group) → Waits (just_opened groups) nothing
-waits-opened groups = record { unchanged = awaited.waits-opened groups; placed = All-nil (IsPlaced (state_of (just_opened groups))) }
+waits-opened groups = record { awaits = awaited.waits-opened groups; placed = All-nil (IsPlaced (state_of (just_opened groups))) }
 
 pub waits-edited : (history : History) (edit : Edit) → Waits (Edited edit ∷ history) nothing
-waits-edited history edit = record { unchanged = awaited.waits-edited history edit; placed = All-nil (IsPlaced (state_of (Edited edit ∷ history))) }
+waits-edited history edit = record { awaits = awaited.waits-edited history edit; placed = All-nil (IsPlaced (state_of (Edited edit ∷ history))) }
 
 -- a stale arrival changes nothing, and a post neither
 
 pub waits-stale : (history : History) (unchanged : Waiting) (arrival : Arrival) → is_stale_to history arrival ≡ true → Waits history unchanged → Waits (Came arrival ∷ history) unchanged
-waits-stale history unchanged arrival stale waits = record { unchanged = awaited.waits-stale history unchanged arrival stale waits.unchanged; placed = waits.placed }
+waits-stale history unchanged arrival stale waits = record { awaits = awaited.waits-stale history unchanged arrival stale waits.awaits; placed = waits.placed }
 
 pub waits-posted : (history : History) (unchanged : Waiting) (task : ℕ) (bytes : List ℕ) → Waits history unchanged → Waits (Posted task bytes ∷ history) unchanged
-waits-posted history unchanged task bytes waits = record { unchanged = awaited.waits-posted history unchanged task bytes waits.unchanged; placed = waits.placed }
+waits-posted history unchanged task bytes waits = record { awaits = awaited.waits-posted history unchanged task bytes waits.awaits; placed = waits.placed }
 
 pub waits-cleared : (history : History) (unchanged : Waiting) (station : ℕ) → Waits history unchanged → Waits (Cleared station ∷ history) unchanged
-waits-cleared history unchanged station waits = record { unchanged = awaited.waits-cleared history unchanged station waits.unchanged; placed = waits.placed }
+waits-cleared history unchanged station waits = record { awaits = awaited.waits-cleared history unchanged station waits.awaits; placed = waits.placed }
 
 pub waits-unplugged : (history : History) (unchanged : Waiting) (station : ℕ) → Waits history unchanged → Waits (Unplugged station ∷ history) unchanged
-waits-unplugged history unchanged station waits = record { unchanged = awaited.waits-unplugged history unchanged station waits.unchanged; placed = waits.placed }
+waits-unplugged history unchanged station waits = record { awaits = awaited.waits-unplugged history unchanged station waits.awaits; placed = waits.placed }
 
 -- an arrival that is current ends what it answers, and the writes that it doesn't answer stay
 
 pub waits-ended : (history : History) (unchanged : Waiting) (arrival : Arrival) → Waits history unchanged → is_stale_to history arrival ≡ false
     → Waits (Came arrival ∷ history) (ended arrival.serial unchanged)
 waits-ended history unchanged arrival waits updates = record {
-  unchanged = over.waits-ended history unchanged arrival waits.unchanged updates;
+  awaits = over.waits-ended history unchanged arrival waits.awaits updates;
   placed =
       let stays : AwaitedWrite → Bool = λ write. not (write.serial == arrival.serial) in
       let P = IsPlaced (state_of history) in
@@ -102,7 +102,7 @@ waits-wrote history unchanged placed some first all waits =
     let now : AwaitedWrite = record { serial = next_serial history; blocks = again } in
     let older = older_parts history unchanged again waits in
     record {
-      unchanged = awaited.waits-wrote history unchanged placed some first waits.unchanged;
+      awaits = awaited.waits-wrote history unchanged placed some first waits.awaits;
       placed = All-append P (older_further again unchanged) (older_writes again unchanged ++ now ∷ []) older.0
           (All-append P (older_writes again unchanged) (now ∷ []) older.1 (All-cons P now [] (placed_awaited state placed all) (All-nil P)));
     }
@@ -116,7 +116,7 @@ waits-wrote_further history unchanged placed some all waits =
     let now : AwaitedWrite = record { serial = next_serial history; blocks = again } in
     let older = older_parts history unchanged again waits in
     record {
-      unchanged = awaited.waits-wrote_further history unchanged placed some waits.unchanged;
+      awaits = awaited.waits-wrote_further history unchanged placed some waits.awaits;
       placed = All-append P (older_further again unchanged ++ now ∷ []) (older_writes again unchanged)
           (All-append P (older_further again unchanged) (now ∷ []) older.0 (All-cons P now [] (placed_awaited state placed all) (All-nil P))) older.1;
     }
@@ -136,7 +136,7 @@ pub waits-forgot : (history : History) (unchanged : Waiting) (station : ℕ) →
 waits-forgot history unchanged station waits =
     let state = state_of history in
     record {
-      unchanged = awaited.waits-forgot history unchanged station waits.unchanged;
+      awaits = awaited.waits-forgot history unchanged station waits.awaits;
       placed = All-append (IsPlaced state) (left_forgotten station unchanged.further) (left_forgotten station unchanged.writes)
           (forgotten_are_placed state station unchanged.further (All-append_left (IsPlaced state) unchanged.further unchanged.writes waits.placed))
           (forgotten_are_placed state station unchanged.writes (All-append_right (IsPlaced state) unchanged.further unchanged.writes waits.placed));

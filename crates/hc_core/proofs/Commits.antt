@@ -79,7 +79,7 @@ proposal-after_it unchanged history taken frames is agree =
           (λ frame less. All-weaker (λ (next : Frame). next_serial history ≤ next.serial) (λ (next : Frame). frame.serial < next.serial)
           (λ next low. not_above frame.serial (next_serial history) next.serial less low) (proposal history tasks)
           (from_number (proposal history tasks) (next_serial history) (next_serial history) (proposals-numbered history tasks) (at_least (next_serial history))))
-          unchanged.awaited.frames agree.waits.unchanged.below;
+          unchanged.awaited.frames agree.waits.awaits.below;
     })
 
 -- the serials suffice

@@ -97,7 +97,7 @@ updates-edited taken history edit changes new report accepted say shows =
     let after_it : state_after_changes (state_of taken) changes ≡ state_of history = shows.after_it in
     let after : state_after (state_of history) swap.edit ≡ new = ap (state_after (state_of history)) say.named ∙ after-is (state_of history) edit new accepted in
     record {
-      answer_given = search (rules, append_assoc, map-append);
+      updates = search (rules, append_assoc, map-append);
       legal = legal-joined (state_of taken) changes (change.Swapped swap ∷ []) shows.legal (
         record {
           accepted = search rules;

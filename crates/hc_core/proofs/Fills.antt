@@ -66,7 +66,7 @@ proposal-filled history tasks left =
     let is_placed = proposal-is_placed history tasks in
     let counted = frames-counted (line_of history) (next_serial history) (flat_map (task_datagrams (line_of history)) tasks) in
     let serials = below_number frames (next_serial history) SETUP_SERIAL (proposals-numbered history tasks) left in
-    λ i d within. record { is_placed = is_placed i d within; counted = counted i d within; serial = serials i d within }
+    λ i d within. record { in_line = is_placed i d within; counted = counted i d within; serial = serials i d within }
 
 pub few-frames : (serial count most : ℕ) → serial + count ≤ most → count ≤ most
 few-frames serial count most left = omega (arith, left)

@@ -77,7 +77,7 @@ filter_alike p q same (block ∷ blocks) =
 pub further-first : (unchanged : CoreParts) (history taken : History) → Agree unchanged history taken → further_from (known_bytes history) (state_of history) unchanged.awaited 0 ≡ further_blocks history
 further-first unchanged history taken agree =
     filter_alike (λ (block : LineBlock). not (is_newest_awaited block.station block.number unchanged.awaited)) (λ (block : LineBlock). not (is_under_way history block.station block.number))
-    (λ block. ap not (newest-under_way history unchanged.awaited block.station block.number agree.waits.unchanged)) (owed_from (known_bytes history) (state_of history) 0)
+    (λ block. ap not (newest-under_way history unchanged.awaited block.station block.number agree.waits.awaits)) (owed_from (known_bytes history) (state_of history) 0)
     ∙ ap (filter (λ (block : LineBlock). not (is_under_way history block.station block.number))) (from_first history agree.project)
 
 further_few : (history : History) (blocks : List LineBlock) → frame_blocks (further_blocks history) ≡ blocks → length blocks ≤ FRAME_BLOCKS

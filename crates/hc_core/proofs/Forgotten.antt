@@ -165,7 +165,7 @@ agree-forgot unchanged history taken station owed readiness inside right ready a
       ∙ unchanged-alike (known_without station (known_bytes history)) (known_bytes (Forgot station ∷ history)) (state_of history) (λ other number. sym (known-forgot history station other number));
   ready = areas-alike readiness (known_without station (known_bytes history)) (may_hold history) (is_unplugged history) (Forgot station ∷ history) ready
       (λ other number. sym (known-forgot history station other number)) (λ other number. same-hold (may_hold history other number) (may_hold history other number) refl) (λ other. refl);
-  shows = record { answer_given = agree.shows.answer_given; legal = agree.shows.legal; exact = agree.shows.exact; after_it = agree.shows.after_it };
+  shows = record { updates = agree.shows.updates; legal = agree.shows.legal; exact = agree.shows.exact; after_it = agree.shows.after_it };
 }
 
 -- a slave that is cleared or unplugged leaves what is kept
@@ -191,7 +191,7 @@ agree-cleared unchanged history taken station readiness is ready agree = record 
   known = agree.known;
   ready = areas-alike readiness (known_bytes history) (held_without station (may_hold history)) (is_unplugged history) (Cleared station ∷ history) ready
       (λ other number. refl) (λ other number. same-hold (held_without station (may_hold history) other number) (may_hold (Cleared station ∷ history) other number) refl) (λ other. refl);
-  shows = record { answer_given = agree.shows.answer_given; legal = agree.shows.legal; exact = agree.shows.exact; after_it = agree.shows.after_it };
+  shows = record { updates = agree.shows.updates; legal = agree.shows.legal; exact = agree.shows.exact; after_it = agree.shows.after_it };
 }
 
 values_unplugged : (history : History) (station : ℕ) (packed : Packed) → HoldsValues history packed → HoldsValues (Unplugged station ∷ history) packed
@@ -215,7 +215,7 @@ agree-unplugged unchanged history taken station readiness is ready agree = recor
   known = agree.known;
   ready = areas-alike readiness (known_bytes history) (may_hold history) (unplugged_with station (is_unplugged history)) (Unplugged station ∷ history) ready
       (λ other number. refl) (λ other number. same-hold (may_hold history other number) (may_hold history other number) refl) (λ other. refl);
-  shows = record { answer_given = agree.shows.answer_given; legal = agree.shows.legal; exact = agree.shows.exact; after_it = agree.shows.after_it };
+  shows = record { updates = agree.shows.updates; legal = agree.shows.legal; exact = agree.shows.exact; after_it = agree.shows.after_it };
 }
 
 -- a declared slave has a position, or it is absent

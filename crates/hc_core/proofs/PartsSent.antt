@@ -64,8 +64,8 @@ module _ (history : History) (packed : Packed) (project : lowest_fault (groups_o
       (λ frame filled.
       record {
         serial = omega arith;
-        known = known-tasks history frame.datagrams project filled.is_placed;
-        counted = carried-counted history packed frame.datagrams project uncrowded filled.is_placed holds ∙ sym filled.counted;
+        known = known-tasks history frame.datagrams project filled.in_line;
+        counted = carried-counted history packed frame.datagrams project uncrowded filled.in_line holds ∙ sym filled.counted;
       }) frames can
 
 -- the datagrams of frames that can be filled are in the line

@@ -23,5 +23,5 @@ pub older-few : (unchanged : CoreParts) (history taken : History) (placed : List
 older-few unchanged history taken placed write first agree =
     let next = Wrote (map block_of placed) ∷ history in
     few-older next unchanged.awaited (next_serial history) (map awaited_block placed)
-    (waits-wrote history unchanged.awaited placed (subst (λ n. 0 < n) (same-length placed) write.some) first agree.waits.unchanged)
+    (waits-wrote history unchanged.awaited placed (subst (λ n. 0 < n) (same-length placed) write.some) first agree.waits.awaits)
     (λ low high older newer. two-writes next low high older newer (write, agree.accepted) (own-names next agree.project))

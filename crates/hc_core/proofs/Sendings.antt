@@ -87,7 +87,7 @@ agree-sent unchanged history taken tasks none left agree =
           (λ station number. same-hold (may_hold history station number) (may_hold (with_sent history frames) station number) (sym (sent_alike (λ before. may_hold before station number) (λ before frame. refl) frames history)))
           (λ station. sym (sent_alike (λ before. is_unplugged before station) (λ before frame. refl) frames history));
       shows = record {
-        answer_given = sent_alike updates_of (λ before frame. refl) frames history ∙ agree.shows.answer_given;
+        updates = sent_alike updates_of (λ before frame. refl) frames history ∙ agree.shows.updates;
         legal = agree.shows.legal;
         exact = agree.shows.exact;
         after_it = agree.shows.after_it ∙ sym same;
@@ -117,7 +117,7 @@ agree_after unchanged history taken placed waiting owed readiness write at left 
   values = values-wrote history (map block_of placed) unchanged.outputs agree.values;
   known = sent ∙ unchanged-alike (known_sent placed (known_bytes history)) (known_bytes (Wrote (map block_of placed) ∷ history)) (state_of history) (λ station number. sym (known-wrote history placed station number));
   ready = areas-wrote readiness history placed agree.project at ready;
-  shows = record { answer_given = agree.shows.answer_given; legal = agree.shows.legal; exact = agree.shows.exact; after_it = agree.shows.after_it };
+  shows = record { updates = agree.shows.updates; legal = agree.shows.legal; exact = agree.shows.exact; after_it = agree.shows.after_it };
 }
 
 -- of the first owed blocks

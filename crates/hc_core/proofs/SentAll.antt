@@ -47,8 +47,8 @@ pub waits-all_sent : (history : History) (unchanged : Waiting) (tasks : List ℕ
 waits-all_sent history unchanged tasks waits =
     let frames = proposal history tasks in
     record {
-      unchanged = frames_wait frames history unchanged (line_of history) refl (proposals-numbered history tasks)
-          (frames-first (line_of history) (next_serial history) (flat_map (task_datagrams (line_of history)) tasks)) (proposal-is_placed history tasks) waits.unchanged;
+      awaits = frames_wait frames history unchanged (line_of history) refl (proposals-numbered history tasks)
+          (frames-first (line_of history) (next_serial history) (flat_map (task_datagrams (line_of history)) tasks)) (proposal-is_placed history tasks) waits.awaits;
       placed = subst (λ writes. All (λ write. All (IsAwaitedAt (state_of (with_sent history frames))) write.blocks) writes) (sym (same_writes frames unchanged))
           (subst (λ state. All (λ (write : AwaitedWrite). All (IsAwaitedAt state) write.blocks) (all_writes unchanged)) (sym (same_state frames history)) waits.placed);
     }

@@ -62,4 +62,4 @@ agree-taken unchanged history taken agree = search rules
 
 pub count-untaken : (taken history : History) (changes : List Change) → ShowUpdates taken history changes → length changes ≡ length (updates_of history) - length (updates_of taken)
 count-untaken taken history changes shows =
-    omega (arith, ap (λ (updates : List Update). length updates) shows.answer_given, length-append (updates_of taken) (map update_in changes), length-map changes update_in)
+    omega (arith, ap (λ (updates : List Update). length updates) shows.updates, length-append (updates_of taken) (map update_in changes), length-map changes update_in)

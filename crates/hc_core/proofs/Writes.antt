@@ -177,7 +177,7 @@ pub all-written : (history : History) (old new : List ℕ) (result : Result Sent
     → OnOk result (lowest (first_into_faults FRAME_BLOCKS history (length old)) ≡ None) → IfOk result (HoldsWrites history old new)
 all-written history old new (Ok sent) holds none =
     let event = lowest-none (write_faults history (owed_blocks history)) (room_faults (writes_size (first_blocks FRAME_BLOCKS history)) (length old)) none in
-    record { answer_given = writes-answer_given history event; blocks = subst (λ blocks. HoldsBlocks history blocks old new sent) (first-all history) holds }
+    record { answer = writes-answer_given history event; blocks = subst (λ blocks. HoldsBlocks history blocks old new sent) (first-all history) holds }
 all-written history old new (Err fault) holds none = holds
 
 pub all-entries : (old new : CoreState) (bytes : ℕ) (result : Result SentWrites CoreFault) → OnOk result (new ≡ record old { history = Wrote (first_blocks FRAME_BLOCKS old.history) ∷ old.history })

@@ -113,4 +113,4 @@ known_done state (block ∷ blocks) (outcome ∷ outcomes) known = known_done st
 pub record AreWriteOutcomes (datagrams : List Judged) (outcomes : List Outcome) : Type 0 where
   pub updates : list_any is_current datagrams ≡ true
   pub blocks : list_any (λ datagram. is_block datagram.head.item) datagrams ≡ true
-  pub answer_given : outcomes ≡ map outcome_for datagrams
+  pub exact : outcomes ≡ map outcome_for datagrams

@@ -8,6 +8,6 @@ use Rattle.hc_events.specs.Sendings.{Frame, line_data_length}
 
 -- its datagrams are of the present line, it has the bytes of their data and 12 more for each of them, and a sending's serial
 pub record CanBeFilled (history : History) (frame : Frame) : Type 0 where
-  pub is_placed : All (IsInLine (line_of history)) frame.datagrams
+  pub in_line : All (IsInLine (line_of history)) frame.datagrams
   pub counted : frame.bytes ≡ sum_by (λ named. 12 + line_data_length (line_of history) named) frame.datagrams
   pub serial : frame.serial < SETUP_SERIAL

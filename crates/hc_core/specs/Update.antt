@@ -11,7 +11,7 @@ use Rattle.hc_core.specs.State.{CoreState}
 -- changes say what is current since an earlier record of a core: they are legal from the state as it was then, their swaps carry only what differs, and they lead to the present
 -- state
 pub record ShowUpdates (taken history : History) (changes : List Change) : Type 0 where
-  pub answer_given : updates_of history ≡ updates_of taken ++ map update_in changes
+  pub updates : updates_of history ≡ updates_of taken ++ map update_in changes
   pub legal : AreLegalFrom (state_of taken) changes
   pub exact : SwapsAreExactFrom (state_of taken) changes
   pub after_it : state_after_changes (state_of taken) changes ≡ state_of history

@@ -8,5 +8,5 @@ use Rattle.hc_core.specs.Chosen.{IsAwaitedAt}
 
 -- frames and writes are those that the record awaits, and each block that is awaited is the one of the line at its place
 pub record Waits (history : History) (waiting : Waiting) : Type 0 where
-  pub unchanged : KeepsAwaited history waiting
+  pub awaits : KeepsAwaited history waiting
   pub placed : All (λ write. All (IsAwaitedAt (state_of history)) write.blocks) (all_writes waiting)

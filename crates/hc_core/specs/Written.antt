@@ -17,7 +17,7 @@ use Rattle.hc_core.specs.declared.writing.SentWrites.{SentWrites}
 -- the frame that writes the first owed block, as the event's answer has it, is before what the slice had after it
 pub record HoldsWrite (history : History) (old new : List ℕ) (size : ℕ) : Type 0 where
   pub text : List ℕ
-  pub answer_given : answer_to history SendsWrite ≡ answer.WriteSent text
+  pub answer : answer_to history SendsWrite ≡ answer.WriteSent text
   pub counted : size ≡ write_size (owed_blocks history)
   pub holds : new ≡ text ++ drop size old
 
@@ -41,12 +41,12 @@ pub record HoldsBlocks (history : History) (blocks : List LineBlock) (old new : 
 
 -- the same of the first owed blocks, as many as a frame holds: as the event's answer has them
 pub record HoldsWrites (history : History) (old new : List ℕ) (sent : SentWrites) : Type 0 where
-  pub answer_given : answer_to history SendsWrites ≡ writes_answer (next_serial history) (frame_blocks (owed_blocks history))
+  pub answer : answer_to history SendsWrites ≡ writes_answer (next_serial history) (frame_blocks (owed_blocks history))
   pub blocks : HoldsBlocks history (frame_blocks (owed_blocks history)) old new sent
 
 -- the same of the first owed blocks that aren't under way
 pub record HoldsFurther (history : History) (old new : List ℕ) (sent : SentWrites) : Type 0 where
-  pub answer_given : answer_to history SendsFurther ≡ writes_answer (next_serial history) (frame_blocks (further_blocks history))
+  pub answer : answer_to history SendsFurther ≡ writes_answer (next_serial history) (frame_blocks (further_blocks history))
   pub blocks : HoldsBlocks history (frame_blocks (further_blocks history)) old new sent
 
 -- the answer to a frame with this text that writes so many blocks: a single write's where it is one

@@ -25,7 +25,7 @@ use std::alloc::{AllocError, Global};
 
 /// Empties the list of an arrival that answers neither a frame of tasks nor one of several register writes.
 fn empty_unless_answered(arrived: Arrived, outcomes: &mut Vec<Outcome>)
-    ensures answer_given { arrived_answer arrived outcomes.new.items ≡ arrived_answer arrived outcomes.old.items }
+    ensures same_answer { arrived_answer arrived outcomes.new.items ≡ arrived_answer arrived outcomes.old.items }
     ensures none { arrived ≢ Answered → arrived ≢ Written → outcomes.new.items ≡ [] }
     ensures capacity { vec_capacity outcomes.new ≡ vec_capacity outcomes.old }
 {
@@ -42,7 +42,7 @@ impl Core {
     /// A stale arrival is recorded, and nothing else changes.
     pub(crate) fn take_stale(&mut self, bytes: &[u8], arrival: &Returned<'_>)
         requires read { arrival_in bytes.now ≡ Ok arrival.now }
-        requires answer_given { judged_answer (judged_by self.old.history arrival.now) ≡ answer.Stale }
+        requires judged { judged_answer (judged_by self.old.history arrival.now) ≡ answer.Stale }
         ensures { self.new ≡ record self.old { history = Came arrival.now ∷ self.old.history } }
     {
         let _ = arrival;
@@ -59,7 +59,7 @@ impl Core {
         outcomes: &[Outcome],
     ) -> Result<(), AllocError>
         requires read { arrival_in bytes.now ≡ Ok arrival.now }
-        requires answer_given { judged_answer (judged_by self.old.history arrival.now) ≡ answer.Answered outcomes.now }
+        requires judged { judged_answer (judged_by self.old.history arrival.now) ≡ answer.Answered outcomes.now }
         ensures taken { OnOk result (self.new ≡ record self.old { history = Came arrival.now ∷ self.old.history }) }
         ensures unchanged { OnErr result (self.new ≡ self.old) }
     {
@@ -86,7 +86,7 @@ impl Core {
     #[inline(always)]
     pub(crate) fn take_writes(&mut self, bytes: &[u8], arrival: &Returned<'_>, outcomes: &[Outcome])
         requires read { arrival_in bytes.now ≡ Ok arrival.now }
-        requires answer_given { AreWriteOutcomes (judged_by self.old.history arrival.now) outcomes.now }
+        requires judged { AreWriteOutcomes (judged_by self.old.history arrival.now) outcomes.now }
         ensures { self.new ≡ record self.old { history = Came arrival.now ∷ self.old.history } }
     {
         let blocks = self.awaited.written(arrival.serial());
@@ -110,7 +110,7 @@ impl Core {
         outcomes: &[Outcome],
     ) -> Result<(), AllocError>
         requires read { arrival_in bytes.now ≡ Ok arrival.now }
-        requires answer_given { judged_answer (judged_by self.old.history arrival.now) ≡ arrived_answer arrived outcomes.now }
+        requires judged { judged_answer (judged_by self.old.history arrival.now) ≡ arrived_answer arrived outcomes.now }
         ensures taken { OnOk result (self.new ≡ record self.old { history = Came arrival.now ∷ self.old.history }) }
         ensures unchanged { OnErr result (self.new ≡ self.old) }
     {

@@ -21,7 +21,7 @@ impl Core {
     /// and no change is left.
     fn discard_inputs(&mut self, bytes: &[u8], arrival: &Returned<'_>, outcomes: &[Outcome])
         requires read { arrival_in bytes.now ≡ Ok arrival.now }
-        requires answer_given { judged_answer (judged_by self.old.history arrival.now) ≡ answer.Answered outcomes.now }
+        requires judged { judged_answer (judged_by self.old.history arrival.now) ≡ answer.Answered outcomes.now }
         ensures { self.new ≡ record { history = Came arrival.now ∷ self.old.history; taken = Came arrival.now ∷ self.old.history } }
     {
         // a look at the core gives its invariant: the data fit an image
@@ -44,7 +44,7 @@ impl Core {
         outcomes: &[Outcome],
     )
         requires read { arrival_in bytes.now ≡ Ok arrival.now }
-        requires answer_given { judged_answer (judged_by self.old.history arrival.now) ≡ arrived_answer arrived outcomes.now }
+        requires judged { judged_answer (judged_by self.old.history arrival.now) ≡ arrived_answer arrived outcomes.now }
         ensures { self.new ≡ record { history = Came arrival.now ∷ self.old.history; taken = Came arrival.now ∷ self.old.history } }
     {
         match arrived {

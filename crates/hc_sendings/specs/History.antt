@@ -36,7 +36,7 @@ pub record KeepsAwaited (history : History) (waiting : Waiting) : Type 0 where
   pub due : (serial : ℕ) → due_with (line_of history) waiting serial ≡ due_by history serial
   pub ascend : AllPairs (λ a b. a.serial < b.serial) waiting.frames
   pub below : All (λ frame. frame.serial < next_serial history) waiting.frames
-  pub is_placed : AllAreInLine (line_of history) waiting
+  pub in_line : AllAreInLine (line_of history) waiting
   pub in_order : AllPairs (λ a b. a.serial < b.serial) waiting.writes
   pub distinct : AllPairs (λ a b. a.serial ≢ b.serial) (all_writes waiting)
   pub given : All (λ write. write.serial < next_serial history) (all_writes waiting)

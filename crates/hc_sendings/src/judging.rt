@@ -169,7 +169,7 @@ fn judge(datagram: Named, sent: Datagram, is_last_sent: bool, part: &Part<'_>) -
 /// The datagram of the plan's line, where it came back with its command, its address and its length.
 fn sent_datagram(plan: &Plan, datagram: Named, part: &Part<'_>) -> Option<Datagram>
     requires named { IsTaskDatagram datagram }
-    requires is_placed { IsInLine (line plan.now) datagram }
+    requires in_line { IsInLine (line plan.now) datagram }
     ensures { result ≡ (if has_head (data_head (line plan.now) datagram) part.now.carried then Some (datagram_of (line plan.now) datagram.0 datagram.1) else None) }
 {
     let sent = plan.places().datagram(datagram.0, datagram.1)?;
@@ -188,7 +188,7 @@ fn judge_parts(
     outcomes: &mut Vec<Outcome>,
 ) -> Result<bool, AllocError>
     requires named { All IsTaskDatagram frame.now.datagrams }
-    requires is_placed { All (IsInLine (line plan.now)) frame.now.datagrams }
+    requires in_line { All (IsInLine (line plan.now)) frame.now.datagrams }
     requires empty { outcomes.old.items ≡ [] }
     ensures outcomes { IfOk result (λ whole. whole_or_none whole outcomes.new.items ≡ outcomes_in (frame_due (line plan.now) (frame_by last_sent.now frame.now)) arrival.now.parts) }
     ensures room { OnErr result (vec_capacity outcomes.old < FRAME_DATAGRAMS) }
@@ -233,7 +233,7 @@ impl Awaited {
         arrival: &Returned<'_>,
         outcomes: &mut Vec<Outcome>,
     ) -> Result<Arrived, AllocError>
-        requires are_placed { AllAreInLine (line plan.now) self.now }
+        requires in_line { AllAreInLine (line plan.now) self.now }
         requires empty { outcomes.old.items ≡ [] }
         ensures answer { IfOk result (λ arrived. arrived_answer arrived outcomes.new.items ≡ judged_answer (judged_in (line plan.now) self.now arrival.now)) }
         ensures room { OnErr result (vec_capacity outcomes.old < FRAME_DATAGRAMS) }

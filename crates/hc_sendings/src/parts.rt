@@ -23,7 +23,7 @@ fn own_bytes(plan: &Plan, datagram: Named) -> usize
 
 /// The bytes of datagrams of the plan's line, at most 115.
 fn datagrams_bytes(plan: &Plan, datagrams: &[Named]) -> usize
-    requires are_placed { All (IsInLine (line plan.now)) datagrams.now }
+    requires in_line { All (IsInLine (line plan.now)) datagrams.now }
     requires few { length datagrams.now ≤ 115 }
     ensures bytes { result ≡ sum_by (own_bytes (line plan.now)) datagrams.now }
     ensures most { result ≤ 172270 }
@@ -37,7 +37,7 @@ fn datagrams_bytes(plan: &Plan, datagrams: &[Named]) -> usize
 
 /// The bytes of those that are of a task.
 fn own_share(plan: &Plan, datagrams: &[Named], task: u8) -> usize
-    requires are_placed { All (IsInLine (line plan.now)) datagrams.now }
+    requires in_line { All (IsInLine (line plan.now)) datagrams.now }
     requires few { length datagrams.now ≤ 115 }
     ensures bytes { result ≡ sum_by (own_share (line plan.now) task) datagrams.now }
     ensures most { result ≤ 172270 }
@@ -64,7 +64,7 @@ pub(crate) fn share(task: u8, bytes: usize, datagram: Option<Named>) -> usize
 
 /// The bytes of a task's part of a frame with these datagrams.
 fn frame_part(plan: &Plan, datagrams: &[Named], task: u8) -> usize
-    requires are_placed { All (IsInLine (line plan.now)) datagrams.now }
+    requires in_line { All (IsInLine (line plan.now)) datagrams.now }
     requires few { length datagrams.now ≤ 115 }
     ensures bytes { result ≡ frame_part (line plan.now) task datagrams.now }
     ensures most { result ≤ 172330 }
@@ -79,7 +79,7 @@ fn frame_part(plan: &Plan, datagrams: &[Named], task: u8) -> usize
 /// The bytes of a task's part of frames of the plan's line: its datagrams, the 16 bytes before those of a
 /// frame whose first one is the task's, and the zeros after those of a frame whose last one is.
 pub fn part_size(plan: &Plan, frames: &[Sending], task: u8) -> usize
-    requires are_placed { All (λ frame. All (IsInLine (line plan.now)) frame.datagrams) frames.now }
+    requires in_line { All (λ frame. All (IsInLine (line plan.now)) frame.datagrams) frames.now }
     requires few { length frames.now ≤ SETUP_SERIAL }
     ensures { result ≡ part_size (line plan.now) task frames.now }
 {

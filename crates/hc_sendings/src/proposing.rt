@@ -53,7 +53,7 @@ fn plan_frames(
     requires few { length tasks.now ≤ TASKS }
     requires empty { frames.old.items ≡ [] }
     ensures frames { OnOk result (frames.new.items ≡ sendings_of (line plan.now) serial tasks.now) }
-    ensures are_placed { OnOk result (All (λ frame. All (IsInLine (line plan.now)) frame.datagrams) frames.new.items) }
+    ensures in_line { OnOk result (All (λ frame. All (IsInLine (line plan.now)) frame.datagrams) frames.new.items) }
     ensures left { OnOk result (serial + length frames.new.items ≤ SETUP_SERIAL) }
     ensures refused { IfErr result (λ fault. fault ≢ Memory → (fault ≡ SerialsSpent) × (SETUP_SERIAL < serial + length (sendings_of (line plan.now) serial tasks.now))) }
     ensures room { IfErr result (λ fault. fault ≡ Memory → vec_capacity frames.old < MOST_DATAGRAMS * TASKS) }
@@ -89,7 +89,7 @@ pub fn propose_into(
     requires serial { serial ≤ SETUP_SERIAL }
     requires together { AreSentTogether tasks.now }
     ensures frames { OnOk result (frames.new.items ≡ sendings_of (line plan.now) serial tasks.now) }
-    ensures are_placed { OnOk result (All (λ frame. All (IsInLine (line plan.now)) frame.datagrams) frames.new.items) }
+    ensures in_line { OnOk result (All (λ frame. All (IsInLine (line plan.now)) frame.datagrams) frames.new.items) }
     ensures left { OnOk result (serial + length frames.new.items ≤ SETUP_SERIAL) }
     ensures accepted { OnOk result (lowest (sending_faults (line plan.now) serial owed tasks.now) ≡ None) }
     ensures refused { IfErr result (λ fault. fault ≢ Memory → lowest (sending_faults (line plan.now) serial owed tasks.now) ≡ Some fault) }

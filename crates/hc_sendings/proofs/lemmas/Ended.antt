@@ -99,7 +99,7 @@ waits-ended history waiting arrival waits updates =
       due = λ serial. due_ended (line_of history) arrival.serial waiting serial ∙ ap (cond (serial == arrival.serial) None) (waits.due serial) ∙ sym (due_answered history arrival serial for);
       ascend = AllPairs-filter (λ (a b : AwaitedFrame). a.serial < b.serial) keep waiting.frames waits.ascend;
       below = All-filter keep (λ (frame : AwaitedFrame). frame.serial < next_serial history) waiting.frames waits.below;
-      is_placed = All-filter keep (λ (frame : AwaitedFrame). All (λ carried. IsInLine (line_of history) carried.datagram) frame.datagrams) waiting.frames waits.is_placed;
+      in_line = All-filter keep (λ (frame : AwaitedFrame). All (λ carried. IsInLine (line_of history) carried.datagram) frame.datagrams) waiting.frames waits.in_line;
       in_order = AllPairs-filter (λ (a b : AwaitedWrite). a.serial < b.serial) stays waiting.writes waits.in_order;
       distinct = back (AllPairs differ) (AllPairs-filter differ stays (all_writes waiting) waits.distinct);
       given = back (All (λ (write : AwaitedWrite). write.serial < next_serial history)) (All-filter stays (λ (write : AwaitedWrite). write.serial < next_serial history) (all_writes waiting) waits.given);

@@ -70,8 +70,8 @@ waits-sent history stored frame number some are_placed waits =
       below = back (All (λ (f : AwaitedFrame). f.serial < next_serial history + 1)) (unchanged_frames (λ f. f.serial < next_serial history + 1) frame.datagrams stored.frames (as_sent frame)
           (All-weaker (λ (f : AwaitedFrame). f.serial < next_serial history) (λ (f : AwaitedFrame). f.serial < next_serial history + 1) (λ f less. below_more f.serial (next_serial history) less) stored.frames waits.below)
           (last_below frame.serial (next_serial history) number));
-      is_placed = back (All (IsPlaced (line_of history))) (unchanged_frames (IsPlaced (line_of history)) frame.datagrams stored.frames (as_sent frame)
-          (All-weaker (IsPlaced (line_of history)) (λ (f : AwaitedFrame). IsPlaced (line_of history) (with_again frame.datagrams f)) (λ f all. again_is_placed (line_of history) frame.datagrams f.datagrams all) stored.frames waits.is_placed)
+      in_line = back (All (IsPlaced (line_of history))) (unchanged_frames (IsPlaced (line_of history)) frame.datagrams stored.frames (as_sent frame)
+          (All-weaker (IsPlaced (line_of history)) (λ (f : AwaitedFrame). IsPlaced (line_of history) (with_again frame.datagrams f)) (λ f all. again_is_placed (line_of history) frame.datagrams f.datagrams all) stored.frames waits.in_line)
           (new_is_placed (line_of history) frame.datagrams are_placed));
       in_order = waits.in_order;
       distinct = waits.distinct;

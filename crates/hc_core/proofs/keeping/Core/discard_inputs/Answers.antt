@@ -23,7 +23,7 @@ put_good_answers-requires c =
     let history = history_read inside.history in
     let arrival = c.args.arrival.now in
     let outcomes = c.args.outcomes.now in
-    let answer_given : judged_answer (judged_by history arrival) ≡ answer.Answered outcomes = ap (λ (state : CoreState). judged_answer (judged_by state.history arrival)) c.self.view_is ∙ c.requires.answer_given in
+    let answer_given : judged_answer (judged_by history arrival) ≡ answer.Answered outcomes = ap (λ (state : CoreState). judged_answer (judged_by state.history arrival)) c.self.view_is ∙ c.requires.judged in
     good_answers-fit (core_parts inside) history (history_read inside.taken.value) arrival (good_answers_in outcomes arrival.parts) c.self.invariant (answer_given-inputs history arrival outcomes answer_given).good_answers
 
 pub invariant_of-self : goal.invariant_of-self
@@ -34,7 +34,7 @@ invariant_of-self c =
     let outcomes = c.args.outcomes.now in
     let grown = c.came-came.ensures ∙ ap (with_arrival history) c.requires.read in
     let now = ap history_read c.of.ensures ∙ grown in
-    let answer_given : judged_answer (judged_by history arrival) ≡ answer.Answered outcomes = ap (λ (state : CoreState). judged_answer (judged_by state.history arrival)) c.self.view_is ∙ c.requires.answer_given in
+    let answer_given : judged_answer (judged_by history arrival) ≡ answer.Answered outcomes = ap (λ (state : CoreState). judged_answer (judged_by state.history arrival)) c.self.view_is ∙ c.requires.judged in
     let epoch : c.epoch-epoch.result ≡ epoch_of history = c.epoch-epoch.ensures ∙ ap (λ (state : State). state.epoch) c.self.invariant.state ∙ epochs-counted history c.self.invariant.accepted in
     let over = c.end.ensures ∙ ap (λ serial. ended serial inside.awaited) c.serial.ensures.value in
     let put : CoreParts = record (core_parts inside) { awaited = ended arrival.serial inside.awaited; inputs = c.put_good_answers.new.inputs; ages = c.put_good_answers.new.ages; changes = inside.changes.items ++ map change_of (good_answers_in outcomes arrival.parts) } in

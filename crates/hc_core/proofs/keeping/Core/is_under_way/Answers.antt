@@ -9,5 +9,5 @@ pub returns : goal.returns
 returns c =
     let inside = c.self.inside in
     let history = history_read inside.history in
-    c.is_newest_awaited.ensures ∙ newest-under_way history inside.awaited c.args.station c.args.number c.self.invariant.waits.unchanged
+    c.is_newest_awaited.ensures ∙ newest-under_way history inside.awaited c.args.station c.args.number c.self.invariant.waits.awaits
     ∙ ap (λ (state : CoreState). is_under_way state.history c.args.station c.args.number) c.self.view_is

@@ -11,8 +11,8 @@ use Rattle.hc_core.specs.Filled.{CanBeFilled}
 use Rattle.hc_core.specs.State.{CoreState}
 use Rattle.hc_core.proofs.keeping.Core.part_size.Goals as goal
 
-pub part_size-requires-clause-are_placed : goal.part_size-requires-clause-are_placed
-part_size-requires-clause-are_placed c =
+pub part_size-requires-clause-in_line : goal.part_size-requires-clause-in_line
+part_size-requires-clause-in_line c =
     let history = history_read c.self.inside.history in
     let frames = c.args.frames.now in
     let can : All (CanBeFilled history) frames = subst (λ (state : CoreState). All (CanBeFilled state.history) frames) (sym c.self.view_is) c.requires.frames in

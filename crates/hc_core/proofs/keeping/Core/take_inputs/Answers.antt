@@ -22,7 +22,7 @@ put_changes-requires-clause-fit c =
     let history = history_read inside.history in
     let arrival = c.args.arrival.now in
     let outcomes = c.args.outcomes.now in
-    let answer_given : judged_answer (judged_by history arrival) ≡ answer.Answered outcomes = ap (λ (state : CoreState). judged_answer (judged_by state.history arrival)) c.self.view_is ∙ c.requires.answer_given in
+    let answer_given : judged_answer (judged_by history arrival) ≡ answer.Answered outcomes = ap (λ (state : CoreState). judged_answer (judged_by state.history arrival)) c.self.view_is ∙ c.requires.judged in
     good_answers-fit (core_parts inside) history (history_read inside.taken.value) arrival (good_answers_in outcomes arrival.parts) c.self.invariant (answer_given-inputs history arrival outcomes answer_given).good_answers
 
 pub put_good_answers-requires : goal.put_good_answers-requires
@@ -31,7 +31,7 @@ put_good_answers-requires c =
     let history = history_read inside.history in
     let arrival = c.args.arrival.now in
     let outcomes = c.args.outcomes.now in
-    let answer_given : judged_answer (judged_by history arrival) ≡ answer.Answered outcomes = ap (λ (state : CoreState). judged_answer (judged_by state.history arrival)) c.self.view_is ∙ c.requires.answer_given in
+    let answer_given : judged_answer (judged_by history arrival) ≡ answer.Answered outcomes = ap (λ (state : CoreState). judged_answer (judged_by state.history arrival)) c.self.view_is ∙ c.requires.judged in
     good_answers-fit (core_parts inside) history (history_read inside.taken.value) arrival (good_answers_in outcomes arrival.parts) c.self.invariant (answer_given-inputs history arrival outcomes answer_given).good_answers
 
 pub invariant_of-self-in_err-append : goal.invariant_of-self-in_err-append
@@ -47,7 +47,7 @@ invariant_of-self-2 c =
     let outcomes = c.args.outcomes.now in
     let taken = history_read inside.taken.value in
     let grown = c.came.ensures ∙ ap (with_arrival history) c.requires.read in
-    let answer_given : judged_answer (judged_by history arrival) ≡ answer.Answered outcomes = ap (λ (state : CoreState). judged_answer (judged_by state.history arrival)) c.self.view_is ∙ c.requires.answer_given in
+    let answer_given : judged_answer (judged_by history arrival) ≡ answer.Answered outcomes = ap (λ (state : CoreState). judged_answer (judged_by state.history arrival)) c.self.view_is ∙ c.requires.judged in
     let epoch : c.epoch-epoch.result ≡ epoch_of history = c.epoch-epoch.ensures ∙ ap (λ (state : State). state.epoch) c.self.invariant.state ∙ epochs-counted history c.self.invariant.accepted in
     let over = c.end.ensures ∙ ap (λ serial. ended serial inside.awaited) c.serial.ensures.value in
     let more = c.in_ok-append.ensures.items ∙ ap (λ (changes : List Change). inside.changes.items ++ changes) c.in_ok-put_changes.ensures in

@@ -16,6 +16,6 @@ invariant_of-self c =
     let history = history_read inside.history in
     let arrival = c.args.arrival.now in
     let grown = c.came.ensures ∙ ap (with_arrival history) c.requires.read in
-    let answer_given : judged_answer (judged_by history arrival) ≡ answer.Stale = ap (λ (state : CoreState). judged_answer (judged_by state.history arrival)) c.self.view_is ∙ c.requires.answer_given in
+    let answer_given : judged_answer (judged_by history arrival) ≡ answer.Stale = ap (λ (state : CoreState). judged_answer (judged_by state.history arrival)) c.self.view_is ∙ c.requires.judged in
     subst (λ (grows : History). Agree (core_parts inside) grows (history_read inside.taken.value)) (sym grown)
     (agree-stale (core_parts inside) history (history_read inside.taken.value) arrival (answer_given-stale history arrival answer_given) c.self.invariant)

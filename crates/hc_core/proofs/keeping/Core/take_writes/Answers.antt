@@ -25,8 +25,8 @@ confirm-requires c =
     let history = history_read inside.history in
     let arrival = c.args.arrival.now in
     let outcomes = c.args.outcomes.now in
-    let written : AreWriteOutcomes (judged_by history arrival) outcomes = subst (λ (state : CoreState). AreWriteOutcomes (judged_by state.history arrival) outcomes) (sym c.self.view_is) c.requires.answer_given in
-    let with = unchanged-with history inside.awaited arrival c.self.invariant.waits.unchanged (answer_given-writes history arrival outcomes written) in
+    let written : AreWriteOutcomes (judged_by history arrival) outcomes = subst (λ (state : CoreState). AreWriteOutcomes (judged_by state.history arrival) outcomes) (sym c.self.view_is) c.requires.judged in
+    let with = unchanged-with history inside.awaited arrival c.self.invariant.waits.awaits (answer_given-writes history arrival outcomes written) in
     let blocks : c.written-blocks.result.now ≡ with.write.blocks = c.written-blocks.ensures.blocks ∙ ap (λ serial. blocks_with serial inside.awaited) c.serial.ensures.value ∙ blocks-with history inside.awaited arrival with in
     can-confirm (core_parts inside) history (history_read inside.taken.value) arrival c.written-blocks.result.now with blocks c.self.invariant
 
@@ -36,8 +36,8 @@ confirm_areas-requires c =
     let history = history_read inside.history in
     let arrival = c.args.arrival.now in
     let outcomes = c.args.outcomes.now in
-    let written : AreWriteOutcomes (judged_by history arrival) outcomes = subst (λ (state : CoreState). AreWriteOutcomes (judged_by state.history arrival) outcomes) (sym c.self.view_is) c.requires.answer_given in
-    let with = unchanged-with history inside.awaited arrival c.self.invariant.waits.unchanged (answer_given-writes history arrival outcomes written) in
+    let written : AreWriteOutcomes (judged_by history arrival) outcomes = subst (λ (state : CoreState). AreWriteOutcomes (judged_by state.history arrival) outcomes) (sym c.self.view_is) c.requires.judged in
+    let with = unchanged-with history inside.awaited arrival c.self.invariant.waits.awaits (answer_given-writes history arrival outcomes written) in
     let blocks : c.written-blocks.result.now ≡ with.write.blocks = c.written-blocks.ensures.blocks ∙ ap (λ serial. blocks_with serial inside.awaited) c.serial.ensures.value ∙ blocks-with history inside.awaited arrival with in
     can-confirm_areas (core_parts inside) history (history_read inside.taken.value) arrival c.written-blocks.result.now with blocks c.self.invariant
 
@@ -49,8 +49,8 @@ invariant_of-self c =
     let unchanged = core_parts inside in
     let arrival = c.args.arrival.now in
     let outcomes = c.args.outcomes.now in
-    let written : AreWriteOutcomes (judged_by history arrival) outcomes = subst (λ (state : CoreState). AreWriteOutcomes (judged_by state.history arrival) outcomes) (sym c.self.view_is) c.requires.answer_given in
-    let with = unchanged-with history inside.awaited arrival c.self.invariant.waits.unchanged (answer_given-writes history arrival outcomes written) in
+    let written : AreWriteOutcomes (judged_by history arrival) outcomes = subst (λ (state : CoreState). AreWriteOutcomes (judged_by state.history arrival) outcomes) (sym c.self.view_is) c.requires.judged in
+    let with = unchanged-with history inside.awaited arrival c.self.invariant.waits.awaits (answer_given-writes history arrival outcomes written) in
     let blocks : c.written-blocks.result.now ≡ with.write.blocks = c.written-blocks.ensures.blocks ∙ ap (λ serial. blocks_with serial inside.awaited) c.serial.ensures.value ∙ blocks-with history inside.awaited arrival with in
     let confirmed = c.confirm.ensures (can-confirm unchanged history taken arrival c.written-blocks.result.now with blocks c.self.invariant)
     ∙ ap (λ (all : List AwaitedBlock). register_state_of (known_done (state_of history) all outcomes (known_bytes history)) (state_of history)) blocks in

@@ -20,14 +20,14 @@ values_text-requires-clause-known c =
     let history = history_read c.self.inside.history in
     let frame = c.args.frame.now in
     let can : CanBeFilled history frame = subst (λ (state : CoreState). CanBeFilled state.history frame) (sym c.self.view_is) c.requires in
-    known-tasks history frame.datagrams c.self.invariant.project can.is_placed
+    known-tasks history frame.datagrams c.self.invariant.project can.in_line
 
 pub values_text-requires-clause-size : goal.values_text-requires-clause-size
 values_text-requires-clause-size c =
     let history = history_read c.self.inside.history in
     let frame = c.args.frame.now in
     let can : CanBeFilled history frame = subst (λ (state : CoreState). CanBeFilled state.history frame) (sym c.self.view_is) c.requires in
-    let same = carried-counted history c.self.inside.outputs frame.datagrams c.self.invariant.project c.self.invariant.uncrowded can.is_placed c.self.invariant.values ∙ sym can.counted in
+    let same = carried-counted history c.self.inside.outputs frame.datagrams c.self.invariant.project c.self.invariant.uncrowded can.in_line c.self.invariant.values ∙ sym can.counted in
     let within = c.datagrams.ensures.filled.within in omega (arith, same, within)
 
 pub returns : goal.returns
@@ -35,7 +35,7 @@ returns c =
     let history = history_read c.self.inside.history in
     let frame = c.args.frame.now in
     let can : CanBeFilled history frame = subst (λ (state : CoreState). CanBeFilled state.history frame) (sym c.self.view_is) c.requires in
-    let known = known-tasks history frame.datagrams c.self.invariant.project can.is_placed in
-    let same = text-sent history c.self.inside.outputs frame c.self.invariant.project c.self.invariant.uncrowded known can.is_placed c.self.invariant.values
+    let known = known-tasks history frame.datagrams c.self.invariant.project can.in_line in
+    let same = text-sent history c.self.inside.outputs frame c.self.invariant.project c.self.invariant.uncrowded known can.in_line c.self.invariant.values
     ∙ ap (λ (state : CoreState). sent_text state.history frame) c.self.view_is in
     subst (λ (whole : List ℕ). IfOk c.values_text.result (λ (text : List ℕ). text ≡ whole)) same c.values_text.ensures

@@ -38,4 +38,4 @@ returns-clause-answer c =
     (c.of.ensures
     ∙ ap (λ (n : ℕ). take n (c.write_into.new.out ++ drop (length c.write_into.new.out) c.in_ok-text.text.items)) room
     ∙ filled written.text c.deref_mut.result.now c.write_into.new.out c.in_ok-text.text.items c.in_ok-write_into.field-0 60 written.holds (written.counted ∙ write-sized history (some-owed history none)) long same)
-    ∙ sym written.answer_given
+    ∙ sym written.answer

@@ -39,4 +39,4 @@ returns-clause-answer c =
     (same ∙ sym room) (long ∙ sym room) (omega (arith, most, size, room)))
     ∙ ap (sent_answer text) written.blocks.count
     ∙ sent-answered (next_serial history) blocks (further-some history none)
-    ∙ sym written.answer_given
+    ∙ sym written.answer

@@ -131,7 +131,7 @@ returns-clause-written c =
     let out = c.args.out.now in
     subst (λ (state : CoreState). HoldsFurther state.history out (c.write.new.out ++ drop size out) (record { size = size; blocks = length c.blocks-5.result.now })) c.self.view_is
     (record {
-      answer_given = further-answer_given history none;
+      answer = further-answer_given history none;
       blocks = record {
         size = c.size-size.ensures ∙ ap frame_bytes is.chosen.bytes;
         count = ap length c.blocks-5.ensures.blocks ∙ sym (same-length frame.blocks) ∙ ap length is.chosen.blocks;

@@ -24,7 +24,7 @@ returns-clause-written c =
     let holds = c.in_ok-sent.ensures.written in
     record {
       text = writes_text (next_serial history) (first_blocks 1 history);
-      answer_given = write-answer_given history none;
+      answer = write-answer_given history none;
       counted = holds.size ∙ one-sized history (some-owed history none);
       holds = holds.holds;
     }

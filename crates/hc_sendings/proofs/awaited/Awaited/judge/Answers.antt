@@ -13,8 +13,8 @@ use Rattle.hc_sendings.specs.Waiting.{AwaitedFrame, AwaitedWrite, AwaitedDatagra
 use Rattle.hc_sendings.proofs.AnswerGiven.{found-holds, found-is_placed, frame-answer_given, judged-blocks, judged-frame, no-blocks}
 use Rattle.hc_sendings.proofs.awaited.Awaited.judge.Goals as goal
 
-pub judge_parts-requires-clause-is_placed : goal.judge_parts-requires-clause-is_placed
-judge_parts-requires-clause-is_placed c =
+pub judge_parts-requires-clause-in_line : goal.judge_parts-requires-clause-in_line
+judge_parts-requires-clause-in_line c =
     let last_sent : LastSent = c.self.inside.last_sent in
     let serial : ℕ = c.args.arrival.now.serial in
     let frame : StoredFrame = c.in-Some-found.frame.now in
@@ -24,7 +24,7 @@ judge_parts-requires-clause-is_placed c =
     ∙ ap (λ (frames : List StoredFrame). find (λ (one : AwaitedFrame). one.serial == serial) (awaited_frames last_sent frames)) c.as_slice.ensures.value
     ∙ ap (λ (w : Waiting). find (λ (one : AwaitedFrame). one.serial == serial) w.frames) c.self.view_is in
     found-is_placed (line c.args.plan.now) last_sent frame
-    (found-holds (λ (one : AwaitedFrame). All (λ (carried : AwaitedDatagram). IsInLine (line c.args.plan.now) carried.datagram) one.datagrams) serial c.args.self.now.frames (frame_by last_sent frame) c.requires.are_placed found)
+    (found-holds (λ (one : AwaitedFrame). All (λ (carried : AwaitedDatagram). IsInLine (line c.args.plan.now) carried.datagram) one.datagrams) serial c.args.self.now.frames (frame_by last_sent frame) c.requires.in_line found)
 
 pub returns-then-branch-clause-answer : goal.returns-then-branch-clause-answer
 returns-then-branch-clause-answer c =
