@@ -61,7 +61,7 @@ parts-fillable history frames tasks lengths bytes can sizes all k d below =
     let number : (slice_index_or (numbered_parts 0 lengths bytes) k d).0 ≡ k = omega (arith, number-numbered_parts 0 lengths bytes k d inside) in
     record {
       filled = can;
-      is_placed = omega (arith, number, is_placed);
+      in_range = omega (arith, number, is_placed);
       exact =
           length-numbered_part 0 lengths bytes k d all inside
           ∙ ap (λ (ls : List ℕ). slice_index_or ls k 0) sizes

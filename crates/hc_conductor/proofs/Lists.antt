@@ -35,13 +35,13 @@ legal-next groups now p q pend pends turned turns rest c same e all first legal 
 -- a legal list that gives a record's updates goes on by what is current since
 pub record Says (groups : List Group) (history : History) (changes : List Change) : Type 0 where
   pub legal : AreLegal groups changes
-  pub answer_given : map update_in changes ≡ updates_of history
+  pub updates : map update_in changes ≡ updates_of history
   pub after_it : state_after_changes (opened groups) changes ≡ state_of history
 
 pub says-more : (groups : List Group) (taken history : History) (before more all : List Change) → Says groups taken before → ShowUpdates taken history more → all ≡ before ++ more → Says groups history all
 says-more groups taken history before more all says updates e = record {
   legal = subst (AreLegal groups) (sym e) (legal-joined (opened groups) before more says.legal (subst (λ (s : State). AreLegalFrom s more) (sym says.after_it) updates.legal));
-  answer_given = ap (map update_in) e ∙ (map-append update_in before more ∙ (ap (λ w. w ++ map update_in more) says.answer_given ∙ sym updates.answer_given));
+  updates = ap (map update_in) e ∙ (map-append update_in before more ∙ (ap (λ w. w ++ map update_in more) says.updates ∙ sym updates.updates));
   after_it = ap (state_after_changes (opened groups)) e ∙ ((changes-lead_on before more).state (opened groups) ∙ (ap (λ s. state_after_changes s more) says.after_it ∙ updates.after_it));
 }
 
@@ -55,7 +55,7 @@ pub is_placed-same : (p q : Conducting) → IsConducting p → q.core ≡ p.core
 is_placed-same p q i core origin all rings = record {
   groups = ap (λ o. o.groups) origin ∙ (i.groups ∙ ap (λ s. opened_with s.history) (sym core));
   legal = subst (λ (g : List Group). AreLegal g (all_taken q)) (sym (ap (λ o. o.groups) origin)) (subst (AreLegal (conductor_origin p).groups) (sym all) i.legal);
-  answer_given = ap (map update_in) all ∙ (i.answer_given ∙ ap (λ s. updates_of s.taken) (sym core));
+  updates = ap (map update_in) all ∙ (i.updates ∙ ap (λ s. updates_of s.taken) (sym core));
   after_it = ap (λ o. state_after_changes (opened o.groups) (all_taken q)) origin ∙ (ap (state_after_changes (opened (conductor_origin p).groups)) all ∙ (i.after_it ∙ ap (λ s. state_of s.taken) (sym core)));
   rings = ap length rings ∙ i.rings;
 }
@@ -68,7 +68,7 @@ is_placed-opened c groups core same shown none empty rings =
     record {
       groups = same ∙ sym (ap (λ s. opened_with s.history) core);
       legal = subst (AreLegal (conductor_origin c).groups) (sym all) tt;
-      answer_given = ap (map update_in) all ∙ sym (ap (λ s. updates_of s.taken) core);
+      updates = ap (map update_in) all ∙ sym (ap (λ s. updates_of s.taken) core);
       after_it = ap (state_after_changes (opened (conductor_origin c).groups)) all ∙ (ap opened same ∙ sym (ap (λ s. state_of s.taken) core));
       rings = rings;
     }

@@ -19,7 +19,7 @@ task_at tasks part = slice_index_or tasks part 0
 -- the part with this number can be filled: there is such a task, and the part has its bytes
 pub record CanFillPart (history : History) (frames : List Frame) (tasks : List ℕ) (part : ℕ) (bytes : List ℕ) : Type 0 where
   pub filled : All (CanBeFilled history) frames
-  pub is_placed : part < length tasks
+  pub in_range : part < length tasks
   pub exact : length bytes ≡ part_size (line_of history) (task_at tasks part) frames
 
 -- the bytes that are written into the part with this number

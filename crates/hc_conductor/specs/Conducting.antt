@@ -52,7 +52,7 @@ all_taken c = conductor_published c ++ conductor_pending c ++ c.waiting
 pub record IsConducting (c : Conducting) : Type 0 where
   pub groups : (conductor_origin c).groups ≡ opened_with (core_history c)
   pub legal : AreLegal (conductor_origin c).groups (all_taken c)
-  pub answer_given : map update_in (all_taken c) ≡ updates_of c.core.taken
+  pub updates : map update_in (all_taken c) ≡ updates_of c.core.taken
   pub after_it : state_after_changes (opened (conductor_origin c).groups) (all_taken c) ≡ state_of c.core.taken
   pub rings : length c.rings ≡ TASKS
 
@@ -67,4 +67,4 @@ SameLists p q = SameChanges p q × (q.rings ≡ p.rings)
 -- the published list is all that the record gives
 pub record PublishesAll (c : Conducting) : Type 0 where
   pub legal : AreLegal (opened_with (core_history c)) (conductor_published c)
-  pub answer_given : map update_in (conductor_published c) ≡ updates_of (core_history c)
+  pub updates : map update_in (conductor_published c) ≡ updates_of (core_history c)

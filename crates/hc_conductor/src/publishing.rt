@@ -55,7 +55,7 @@ impl Conductor {
         ensures all { all_taken self.new ≡ all_taken self.old }
         ensures whole { OnOk result (self.new.waiting ≡ []) }
         ensures rings { self.new.rings ≡ self.old.rings }
-        ensures is_placed { IsConducting self.new }
+        ensures conducting { IsConducting self.new }
     {
         append_all(&mut self.publisher, &mut self.waiting)
     }
@@ -85,7 +85,7 @@ impl Conductor {
         ensures shown { OnOk result (conductor_pending self.new ≡ []) }
         ensures unchanged { OnErr result (conductor_published self.new ≡ conductor_published self.old) }
         ensures rings { self.new.rings ≡ self.old.rings }
-        ensures is_placed { IsConducting self.new }
+        ensures conducting { IsConducting self.new }
     {
         self.publisher.publish(rt)
     }
@@ -99,8 +99,8 @@ impl Conductor {
         ensures origin { conductor_origin self.new ≡ conductor_origin self.old }
         ensures rings { self.new.rings ≡ self.old.rings }
         ensures all { IsPrefix (all_taken self.old) (all_taken self.new) }
-        ensures is_placed { IsConducting self.new }
-        ensures answer_given { OnOk result (PublishesAll self.new) }
+        ensures conducting { IsConducting self.new }
+        ensures publishes { OnOk result (PublishesAll self.new) }
         ensures shown { OnOk result (conductor_published self.new ≡ all_taken self.new) }
         ensures unchanged { OnErr result (conductor_published self.new ≡ conductor_published self.old) }
     {
@@ -121,10 +121,10 @@ impl Conductor {
     }
 
     /// Returns the core, whose record is the conductor's. The changes that were taken from it give the updates of its record as
-    /// it was then (`is_placed`).
+    /// it was then (`conducting`).
     pub fn core(&self) -> &Core
         ensures core { result.now ≡ self.now.core }
-        ensures is_placed { IsConducting self.now }
+        ensures conducting { IsConducting self.now }
     {
         &self.core
     }

@@ -58,7 +58,7 @@ fn with_one(others: Taken, is_accepted: bool) -> Taken
 /// Hands a task's post to the core, and returns whether the core accepted it.
 fn is_accepted(core: &mut Core, task: u8, post: &PostBuffer) -> bool
     ensures core { core.new ≡ record core.old { history = entries_after core.old.history (event_of task post.now) } }
-    ensures answer_given { was_accepted (answer_to core.old.history (event_of task post.now)) ≡ result }
+    ensures accepted { was_accepted (answer_to core.old.history (event_of task post.now)) ≡ result }
 {
     match core.post(task, post.epoch(), post.bytes()) {
         Ok(()) => true,
@@ -69,7 +69,7 @@ fn is_accepted(core: &mut Core, task: u8, post: &PostBuffer) -> bool
 /// Hands a task's post to the core as a steady one, and returns whether the core accepted it.
 fn is_steadily_accepted(core: &mut Core, task: u8, post: &PostBuffer) -> bool
     ensures core { core.new ≡ record core.old { history = entries_after core.old.history (steady_event_of task post.now) } }
-    ensures answer_given { was_accepted (answer_to core.old.history (steady_event_of task post.now)) ≡ result }
+    ensures accepted { was_accepted (answer_to core.old.history (steady_event_of task post.now)) ≡ result }
 {
     match core.post_steady(task, post.epoch(), post.bytes()) {
         Ok(()) => true,
@@ -80,7 +80,7 @@ fn is_steadily_accepted(core: &mut Core, task: u8, post: &PostBuffer) -> bool
 /// Hands a task's post to the core by a rule, and returns whether the core accepted it.
 fn is_accepted_by(core: &mut Core, rule: PostRule, task: u8, post: &PostBuffer) -> bool
     ensures core { core.new ≡ record core.old { history = entries_after core.old.history (event_by rule task post.now) } }
-    ensures answer_given { was_accepted (answer_to core.old.history (event_by rule task post.now)) ≡ result }
+    ensures accepted { was_accepted (answer_to core.old.history (event_by rule task post.now)) ≡ result }
 {
     match rule {
         PostRule::Present => is_accepted(core, task, post),

@@ -19,7 +19,7 @@ bit-byte xs ys m same = ap (λ (byte : ℕ). bit_at byte (m % 8)) same
 
 bit-unchanged : (line : List Member) (member : Member) (memory : List ℕ) (k : ℕ) (machines : List (List ℕ)) (m : ℕ) → (own : MachineIsWritten line member memory k machines) → 32768 ≤ m
     → bit_of own.written m ≡ bit_of memory m
-bit-unchanged line member memory k machines m own high = bit-byte own.written memory m (own.unchanged (m / 8) (inr (high-byte m high)))
+bit-unchanged line member memory k machines m own high = bit-byte own.written memory m (own.alone (m / 8) (inr (high-byte m high)))
   where
     high-byte : (m : ℕ) → 32768 ≤ m → 4096 ≤ m / 8
     high-byte m high = omega arith
@@ -39,7 +39,7 @@ before state machines position member written can are is is' =
     let memory = get_or machines position written in
     let there = slice_get-get_or machines position written (omega arith) in
     let own = writing-programs state machines position member memory can are is there in
-    let equal : Some own.written ≡ Some written = sym own.is_placed ∙ is' in
+    let equal : Some own.written ≡ Some written = sym own.machine ∙ is' in
     let one : own.written ≡ written = cc in
     record {
       memory = memory;
@@ -71,7 +71,7 @@ rest-joined : (state : State) (task : ℕ) (machines : List (List ℕ)) (positio
     → ((written : List ℕ) → slice_get (machines_written (line state) machines) position ≡ Some written → KeepsTheRest task member written memory') → KeepsTheRest task member memory memory'
 rest-joined state task machines position member memory memory' can are is is' stable =
     let own = writing-programs state machines position member memory can are is is' in
-    let left_so = stable own.written own.is_placed in
+    let left_so = stable own.written own.machine in
     record {
       gaps = left_so.gaps;
       rest = λ m high low none. left_so.rest m high low none ∙ bit-unchanged (line state) member memory position machines m own high;

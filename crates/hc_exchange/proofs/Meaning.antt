@@ -422,7 +422,7 @@ came-back state task serial image wire frames machines' d frame g is =
     let came = get_or (all_through machines (sent_logicals state task bytes)) d [] in
     let same : r.came ≡ came = sym (get_or_from_slice_get (all_through machines (sent_logicals state task bytes)) d r.came [] r.came_is) in
     let back = subst (λ (c : List ℕ). Returned members serial task d frame c) same (subst (λ (i : ℕ). Returned members serial task i frame r.came) number r.returned) in
-    record { readable = back.readable; answer_given = back.answer_given ∙ ap (λ (c : ℕ). answer_given-with came c) (small-rest (expected_counter task d members) (counter-low state task d g.can)); size = back.size }
+    record { readable = back.readable; reading = back.reading ∙ ap (λ (c : ℕ). answer_given-with came c) (small-rest (expected_counter task d members) (counter-low state task d g.can)); size = back.size }
   where
     answer_given-with : List ℕ → ℕ → Reading
     answer_given-with bytes counter = record { serial = serial + d; parts = logical_part (logical_address task d) bytes counter ∷ [] }

@@ -89,7 +89,7 @@ passed-machines state wire serial task bytes (d ∷ ds) can carries ok =
 
 pub record Returned (line : List Member) (serial task d : ℕ) (frame came : List ℕ) : Type 0 where
   pub readable : fault_in frame ≡ None
-  pub answer_given : reading_of frame ≡ record { serial = serial + d; parts = logical_part (logical_address task d) came (expected_counter task d line % 65536) ∷ [] }
+  pub reading : reading_of frame ≡ record { serial = serial + d; parts = logical_part (logical_address task d) came (expected_counter task d line % 65536) ∷ [] }
   pub size : length came ≡ datagram_length (task_places task line) d
 
 pub record ReturnedAt (line : List Member) (serial task : ℕ) (ds : List ℕ) (cames : List (List ℕ)) (n : ℕ) (frame : List ℕ) : Type 0 where
@@ -111,7 +111,7 @@ returned-one state wire serial task bytes d can carries ok =
     outsiders.counter ∙ ap (count_through (line_machines wire) from) ok.size ∙ task-counts state (line_machines wire) task d can carries.carrying ok.datagram in
     record {
       readable = passes.readable;
-      answer_given = passes.answer_given ∙ ap₂ answer_given-with outsiders.data_is (ap (λ (n : ℕ). n % 65536) count);
+      reading = passes.reading ∙ ap₂ answer_given-with outsiders.data_is (ap (λ (n : ℕ). n % 65536) count);
       size = length-through (line_machines wire) from (bytes d) ∙ ok.size;
     }
   where

@@ -19,7 +19,7 @@ use Rattle.hc_exchange.specs.Writing.{CanAllBeProgrammed}
 -- the frame of a datagram of a task came back: it is read, with its serial after those of the datagrams before it, at its logical address, with these data, and with the expected counter
 pub record DatagramCameBack (line : List Member) (task serial d : ℕ) (frame bytes : List ℕ) : Type 0 where
   pub readable : fault_in frame ≡ None
-  pub answer_given : reading_of frame
+  pub reading : reading_of frame
       ≡ record { serial = serial + d; parts = logical_part (logical_address task d) bytes (expected_counter task d line) ∷ [] }
   pub size : length bytes ≡ datagram_length (task_places task line) d
 

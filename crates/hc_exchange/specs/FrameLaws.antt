@@ -15,7 +15,7 @@ use Rattle.hc_exchange.specs.Sequences.{Logical, all_after_frames}
 -- the frame of a logical datagram after machines: it is read, with the data and the counter that they make, and the machines are as the datagram leaves them
 pub record PassesLogical (machines : List (List ℕ)) (serial address : ℕ) (bytes frame : List ℕ) : Type 0 where
   pub readable : fault_in (frame_through machines frame) ≡ None
-  pub answer_given : reading_of (frame_through machines frame)
+  pub reading : reading_of (frame_through machines frame)
       ≡ record { serial = serial; parts = logical_part address (data_through machines (8 * address) bytes) (count_through machines (8 * address) (length bytes) % 65536) ∷ [] }
   pub memories : machines_after_frame machines frame ≡ memories_after machines (8 * address) bytes
 
@@ -50,7 +50,7 @@ datagrams_after_machines machines (d ∷ ds) =
 -- the frame that datagrams share is read after machines with the parts of one after another, and the machines are those after them so
 pub record PassesAll (machines : List (List ℕ)) (serial : ℕ) (ds : List Addressed) (frame : List ℕ) : Type 0 where
   pub readable : fault_in (frame_through machines frame) ≡ None
-  pub answer_given : reading_of (frame_through machines frame) ≡ record { serial = serial; parts = datagrams_after_machines machines ds }
+  pub reading : reading_of (frame_through machines frame) ≡ record { serial = serial; parts = datagrams_after_machines machines ds }
   pub memories : machines_after_frame machines frame ≡ all_after_frames machines (map logical_of ds)
 
 -- so is each frame of logical datagrams as it is sent: they do in one frame what they do in frames of their own

@@ -15,9 +15,9 @@ machines_written line machines = machines_after machines (write_frames 0 (line_b
 -- a machine after these frames has its slave's blocks, and nothing else of it is changed
 pub record MachineIsWritten (line : List Member) (member : Member) (memory : List ℕ) (k : ℕ) (machines : List (List ℕ)) : Type 0 where
   pub written : List ℕ
-  pub is_placed : slice_get (machines_written line machines) k ≡ Some written
+  pub machine : slice_get (machines_written line machines) k ≡ Some written
   pub programmed : IsProgrammed line member written
-  pub unchanged : ChangesBlocksAlone memory written
+  pub alone : ChangesBlocksAlone memory written
 
 -- so is each machine of the line
 abbrev pub WritingProgramsTheLine : Type 0

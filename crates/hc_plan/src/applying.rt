@@ -86,11 +86,11 @@ fn say(
     requires known { IsKnownBefore (areas_by_rank edited_line.now.old) (areas_by_rank edited_line.now.new) known.now }
     requires trees { cuts.now ≡ line_cuts (areas_by_rank edited_line.now.new) }
     requires stored { stored.now ≡ blocks_by_rank edited_line.now.old }
-    ensures blocks { IfOk result (λ answer_given. answer_given.blocks.items ≡ moved_ranked (line_from 1 edited_line.now.old) (line_from 1 edited_line.now.new)) }
-    ensures names { IfOk result (λ answer_given. answer_given.names.items ≡ map (λ block. found_name block.found) answer_given.blocks.items) }
-    ensures edit { IfOk result (λ answer_given. answer_given.swap.edit ≡ edit.now) }
-    ensures leads { IfOk result (λ answer_given. Leads (table_of (line_from 1 edited_line.now.old)) (table_of (line_from 1 edited_line.now.new)) answer_given.swap) }
-    ensures room { IfOk result (λ answer_given. IsRowRoomFor answer_given.swap.change places.now answer_given.room) }
+    ensures blocks { IfOk result (λ leading. leading.blocks.items ≡ moved_ranked (line_from 1 edited_line.now.old) (line_from 1 edited_line.now.new)) }
+    ensures names { IfOk result (λ leading. leading.names.items ≡ map (λ block. found_name block.found) leading.blocks.items) }
+    ensures edit { IfOk result (λ leading. leading.swap.edit ≡ edit.now) }
+    ensures leads { IfOk result (λ leading. Leads (table_of (line_from 1 edited_line.now.old)) (table_of (line_from 1 edited_line.now.new)) leading.swap) }
+    ensures room { IfOk result (λ leading. IsRowRoomFor leading.swap.change places.now leading.room) }
 {
     let candidates = maybe_moved_areas(alloc, edited_line, known, cuts)?;
     let tasks = changed_tasks(alloc, cuts, places, known)?;

@@ -145,7 +145,7 @@ text-length whole text rest size all is has left fits = grind (arith, common_ste
 pub frame-is : (history : History) (old new : List ℕ) (size : ℕ) → HoldsWrite history old new size → length new ≡ length old → size ≤ length old → take size new ≡ write_frame history
 frame-is history old new size holds unchanged fits =
     let counts = text-length new holds.text (drop size old) size (length old) holds.holds unchanged (length-drop size old) fits in
-    ap (take size) holds.holds ∙ take_at holds.text (drop size old) size counts ∙ sym (frame-answer_given history holds.text holds.answer_given)
+    ap (take size) holds.holds ∙ take_at holds.text (drop size old) size counts ∙ sym (frame-answer_given history holds.text holds.answer)
 
 -- the next write is sent, and its frame goes along the line
 pub record IsPassed (s sent gone : SessionState) (frame back : List ℕ) : Type 0 where

@@ -67,14 +67,14 @@ leads_stopped : (before : Bool) (old mid new : Option (List ℕ)) (All : Outcome
     → Leads old mid (Left before s turns) All → Stops s turn reply → GoesOn mid new next reply → Leads old new (RunsWithRefusedGrowth next after_it) All
 leads_stopped before old mid new All s next turns turn after_it reply first leads stops taken =
     leads_on old mid new _ _ All reply next leads
-    (λ left is. stopped before s turns turn after_it reply left first stops (subst (λ t. RunsWithRefusedGrowth t after_it left) taken.unchanged is))
+    (λ left is. stopped before s turns turn after_it reply left first stops (subst (λ t. RunsWithRefusedGrowth t after_it left) taken.left is))
     taken
 
 leads_replied : (before : Bool) (old mid new : Option (List ℕ)) (All : Outcome → Type 0) (s next : SessionState) (turns : List Turn) (turn : Turn) (after_it : List Turn) → turns ≡ turn ∷ after_it
     → Leads old mid (Left before s turns) All → GoesOn mid new next (reply_to s turn) → Leads old new (Left before next after_it) All
 leads_replied before old mid new All s next turns turn after_it first leads taken =
     leads_on old mid new _ _ All (reply_to s turn) next leads
-    (λ left is. replied before s turns turn after_it left first (λ _. taken.on) (subst (λ t. Left before t after_it left) taken.unchanged is))
+    (λ left is. replied before s turns turn after_it left first (λ _. taken.on) (subst (λ t. Left before t after_it left) taken.left is))
     taken
 
 -- one turn, and then the run goes on

@@ -50,7 +50,7 @@ begins old all = record { text = record { done = []; appended = Appends-nil old;
 pub continues : (old mid new : Option (List ℕ)) (left all : Outcome) (reply : Reply) (next : SessionState) (of : SessionState → Outcome)
     → Continues old mid left all → left ≡ outcome_after_reply reply (of reply.session_state) → GoesOn mid new next reply → Continues old new (of next) all
 continues old mid new left all reply next of c is turn =
-    let unchanged : of next ≡ of reply.session_state = ap of turn.unchanged in
+    let unchanged : of next ≡ of reply.session_state = ap of turn.left in
     let joined : left ≡ record { text = reply.text ++ (of next).text; status = (of next).status } =
     is ∙ after_on reply (of reply.session_state) turn.on ∙ ap (λ (o : Outcome). record { text = reply.text ++ o.text; status = o.status }) (sym unchanged) in
     record {
@@ -139,7 +139,7 @@ ended_so old new end other all is holds = subst (λ (e : RunEnd). EndsAs old new
 pub after_whole : (old new : Option (List ℕ)) (text : List ℕ) (goes_on : Bool) (end : Option ℕ) (next : SessionState) → end ≡ end_after goes_on → Appends old new text
     → AnswersLine old new next end (record { text = text; session_state = next; goes_on = goes_on })
 after_whole old new text true end next is all =
-    subst (λ (e : Option ℕ). AnswersLine old new next e (record { text = text; session_state = next; goes_on = true })) (sym is) (record { written = all; unchanged = refl; on = refl })
+    subst (λ (e : Option ℕ). AnswersLine old new next e (record { text = text; session_state = next; goes_on = true })) (sym is) (record { written = all; left = refl; on = refl })
 after_whole old new text false end next is all =
     subst (λ (e : Option ℕ). AnswersLine old new next e (record { text = text; session_state = next; goes_on = false })) (sym is)
     (record { whole = λ not_four. (all, refl, refl); front = front_of old new text [] text (append-nil text) all; cut = λ four. cc })

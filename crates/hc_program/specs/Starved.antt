@@ -36,7 +36,7 @@ StopsTurn s (Declares number document) why next = Unchanged s why next
 pub record IsStopped (s : SessionState) (turn : Turn) (reply : Reply) : Type 0 where
   pub why : Stop
   pub stopped : StopsTurn s turn why reply.session_state
-  pub answer_given : reply.text ≡ stop_text why
+  pub text : reply.text ≡ stop_text why
   pub on : reply.goes_on ≡ true
 
 -- the reply to a turn in want: the turn was stopped, and what it left is published or not; or its own reply is not published

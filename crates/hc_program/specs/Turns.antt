@@ -10,7 +10,7 @@ use Rattle.hc_program.specs.Text.{IsCutShort}
 -- the run goes on after the reply, from where that leaves it
 pub record GoesOn (old new : Option (List ℕ)) (next : SessionState) (reply : Reply) : Type 0 where
   pub written : Appends old new reply.text
-  pub unchanged : next ≡ reply.session_state
+  pub left : next ≡ reply.session_state
   pub on : reply.goes_on ≡ true
 
 -- the run ends here: after the whole reply, which ends it, or with status 4 where less than the whole reply was written

@@ -59,7 +59,7 @@ fn status_of(found: Option<Found>) -> u8
 
 /// Returns the report on a text. `AllocError` if an allocation fails.
 fn say(alloc: Global, input: &[u8]) -> Result<CheckedText, AllocError>
-    ensures { IfOk result (λ answer_given. IsCheckedText input.now (string_bytes answer_given.text) answer_given.status) }
+    ensures { IfOk result (λ checked. IsCheckedText input.now (string_bytes checked.text) checked.status) }
 {
     let found = locate(alloc, input)?;
     let mut text = String::new(alloc);

@@ -168,7 +168,7 @@ fn run_commands<Rt: Threads + Wait + Sync, W: Write>(
 /// Writes the last lines of a run, and ends it with this status, which is not that of a failed write.
 pub(crate) fn end_with<W: Write>(lines: &[u8], end: u8, starved: bool, output: &mut W) -> RunEnd
     requires { end ≢ 4 }
-    ensures answer_given { EndsAs (W.contents output.old) (W.contents output.new) result (record { text = lines.now; status = end }) }
+    ensures ends { EndsAs (W.contents output.old) (W.contents output.new) result (record { text = lines.now; status = end }) }
     ensures starved { result.starved ≡ starved }
 {
     match write_text(output, lines) {
@@ -180,7 +180,7 @@ pub(crate) fn end_with<W: Write>(lines: &[u8], end: u8, starved: bool, output: &
 /// Writes the reason for which the project is not opened.
 #[tactic(auto, using(crate::proofs::Openings::in_refused_growth_same))]
 fn end_unopened<W: Write>(alloc: Global, fault: Unopened, output: &mut W) -> RunEnd
-    ensures answer_given { result.starved ≡ false
+    ensures ends { result.starved ≡ false
         → EndsAs (W.contents output.old) (W.contents output.new) result (unopened fault) }
     ensures unstarved { result.starved ≡ false → is_refused_growth fault ≡ false }
     ensures starved { result.starved ≡ true

@@ -28,7 +28,7 @@ impl Master {
     /// `Core::propose`, `Core::preview` and `Core::fill`.
     pub fn core(&self) -> &Core
         ensures core { result.now ≡ self.now.conductor.core }
-        ensures is_placed { IsConducting self.now.conductor }
+        ensures conducting { IsConducting self.now.conductor }
     {
         self.conductor.core()
     }

@@ -16,7 +16,7 @@ impl Master {
     pub fn publish<R: Wait>(&mut self, rt: &R, alloc: Global) -> Result<(), AllocError>
         ensures record { master_history self.new ≡ master_history self.old }
         ensures waiting { waiting self.new ≡ waiting self.old }
-        ensures answer_given { OnOk result (PublishesAll self.new.conductor) }
+        ensures publishes { OnOk result (PublishesAll self.new.conductor) }
         ensures unchanged { OnErr result (master_shown self.new ≡ master_shown self.old) }
     {
         self.conductor.publish(rt, alloc)?;

@@ -211,7 +211,7 @@ shared-pass machines serial ds long can =
     let read = returned-read serial ws (map part_of (through machines (map item_of ds))) (frame_through machines (frame_text serial ws)) passed.back passed.carried in
     record {
       readable = read.0;
-      answer_given = read.1 ∙ ap answer_given-with (parts-through machines ds);
+      reading = read.1 ∙ ap answer_given-with (parts-through machines ds);
       memories = passed.machines ∙ machines-after_it machines ds;
     }
   where
@@ -222,4 +222,4 @@ shared-pass machines serial ds long can =
 pub frames-pass : LogicalFramesPass
 frames-pass machines serial address bytes long can =
     let all = shared-pass machines serial (record { address = address; bytes = bytes } ∷ []) long can in
-    record { readable = all.readable; answer_given = all.answer_given; memories = all.memories }
+    record { readable = all.readable; reading = all.reading; memories = all.memories }

@@ -225,13 +225,13 @@ writing-programs state machines k member memory can are in_line in_machines =
     let stays = blocks-stay memory member.slave.station blocks machine.size machine.programmable.station plain in
     record {
       written = blocks_after memory blocks;
-      is_placed = ap (λ (xs : List (List ℕ)). slice_get xs k) (machines-after_it state machines can are) ∙ slice_get-map (λ m. blocks_after m blocks) machines k
+      machine = ap (λ (xs : List (List ℕ)). slice_get xs k) (machines-after_it state machines can are) ∙ slice_get-map (λ m. blocks_after m blocks) machines k
           ∙ ap (option_map (λ m. blocks_after m blocks)) in_machines;
       programmed = record {
         machine = record { size = stays.size; address = machine.address; programmable = record { station = stays.station_is; unused = λ i history low. unused-stays members member memory i stays_so has plain machine history low } };
         blocks = λ block within. slave-block members member memory block stays_so has plain machine within;
       };
-      unchanged = changed-alone members member memory stays_so has plain machine;
+      alone = changed-alone members member memory stays_so has plain machine;
     }
 
 pub writing-counts : WritingKeepsTheCount

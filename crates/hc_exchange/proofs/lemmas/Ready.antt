@@ -19,7 +19,7 @@ programmed-at state machines k member memory' can are small is is' = by (slice_g
         → IsProgrammedMachine (line state) member memory'
     by (inl found) =
         let written = writing-programs state machines k member found.0 can are is found.2 in
-        let equal : Some written.written ≡ Some memory' = sym written.is_placed ∙ is' in
+        let equal : Some written.written ≡ Some memory' = sym written.machine ∙ is' in
         let same : written.written ≡ memory' = cc in
         let all = machines_written (line state) machines in
         record {

@@ -15,7 +15,7 @@ use std::alloc::AllocError;
 #[tactic(auto, unfolding(crate::specs::Memories::machine_at))]
 fn machine_at(session: &Session, station: u16) -> Result<usize, CoreFault>
     ensures at { result ≡ machine_at session.now station }
-    ensures is_placed { IfOk result (λ position. position < length session.now.machines) }
+    ensures in_range { IfOk result (λ position. position < length session.now.machines) }
 {
     match session.core().plan().position(station) {
         Ok(position) => {

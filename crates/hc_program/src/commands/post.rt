@@ -50,7 +50,7 @@ pub fn reply(
 fn say_post_refusal(refusal: PostRefusal, out: &mut String) -> Result<(), Stop>
     ensures text { OnOk result (string_bytes out.new ≡ string_bytes out.old ++ post_refusal_text refusal) }
     ensures judged { OnOk result ((refusal ≢ why.NoEntry) × (refusal ≢ why.Memory)) }
-    ensures stops { IfErr result (λ answer_given. (answer_given ≡ stop.RefusedGrowth refused_growth.Memory) ⊎ (answer_given ≡ stop.NoEntry)) }
+    ensures stops { IfErr result (λ stopped. (stopped ≡ stop.RefusedGrowth refused_growth.Memory) ⊎ (stopped ≡ stop.NoEntry)) }
 {
     match refusal {
         PostRefusal::NoEntry => Err(Stop::NoEntry),

@@ -32,7 +32,7 @@ impl Publisher {
     pub fn append(&mut self, change: Change) -> Result<(), Kept>
         requires { AreLegal (origin_of self.old).groups (published self.old ++ pending self.old ++ change ∷ []) }
         ensures published { published self.new ≡ published self.old }
-        ensures pending { MatchResult result (λ _. pending self.new ≡ pending self.old ++ change ∷ []) (λ unchanged. (unchanged.0 ≡ change) × (pending self.new ≡ pending self.old)) }
+        ensures pending { MatchResult result (λ _. pending self.new ≡ pending self.old ++ change ∷ []) (λ returned. (returned.0 ≡ change) × (pending self.new ≡ pending self.old)) }
         ensures origin { origin_of self.new ≡ origin_of self.old }
     {
         match self.writer.append(Step::Changed(change)) {

@@ -39,7 +39,7 @@ impl PostReceiver {
         // It is dropped only if no place is known, even after a look.
         ensures given_back { (given_back self.new ≡ given_back self.old ++ buffer ∷ [])
             ⊎ ((given_back self.new ≡ given_back self.old) × (spare_places self.new ≡ 0)) }
-        ensures unchanged { 0 < spare_places self.old → given_back self.new ≡ given_back self.old ++ buffer ∷ [] }
+        ensures stored { 0 < spare_places self.old → given_back self.new ≡ given_back self.old ++ buffer ∷ [] }
         ensures places { spare_places self.old ≤ spare_places self.new + 1 }
     {
         let _ = self.spares.push(buffer);

@@ -21,5 +21,5 @@ pub returns-clause-taken : goal.returns-clause-taken
 returns-clause-taken t c =
     let all : suc (c.args.most - 1) ≡ c.args.most = omega (arith, c.if-most-eq0.false) in
     one-taken c.args.rule c.args.task (c.args.most - 1) c.args.most c.args.core.now c.is_accepted_by-accepted.new.core c.take_some.new.core c.args.ring.now c.take.new.self c.give_back.new.self c.take_some.new.ring c.in-Some.post c.is_accepted_by-accepted.result
-    c.take_some.result c.with_one.result all c.is_accepted_by-accepted.ensures.core c.is_accepted_by-accepted.ensures.answer_given c.take.ensures.ring c.in-Some.ensures.some c.take.ensures.places c.take.ensures.given_back
-    c.give_back.ensures.ring c.give_back.ensures.taken.0 c.give_back.ensures.given_back c.give_back.ensures.unchanged c.give_back.ensures.places c.take_some.ensures.taken c.with_one.ensures.accepted c.with_one.ensures.all
+    c.take_some.result c.with_one.result all c.is_accepted_by-accepted.ensures.core c.is_accepted_by-accepted.ensures.accepted c.take.ensures.ring c.in-Some.ensures.some c.take.ensures.places c.take.ensures.given_back
+    c.give_back.ensures.ring c.give_back.ensures.taken.0 c.give_back.ensures.given_back c.give_back.ensures.stored c.give_back.ensures.places c.take_some.ensures.taken c.with_one.ensures.accepted c.with_one.ensures.all

@@ -29,7 +29,7 @@ returns-in-Ok-clause-starved g c starved =
 pub returns-in-Err-clause-unstarved : goal.returns-in-Err-clause-unstarved
 returns-in-Err-clause-unstarved g c unstarved =
     let opens = ap opening_of (sym c.split_sections-sections.ensures.project) ∙ c.in-Err.ensures.refused (c.end_unopened.ensures.unstarved unstarved) in
-    subst (EndsAs _ _ _) (sym (unopened_outcome c.args.input.now c.in-Err.fault c.requires opens)) (c.end_unopened.ensures.answer_given unstarved)
+    subst (EndsAs _ _ _) (sym (unopened_outcome c.args.input.now c.in-Err.fault c.requires opens)) (c.end_unopened.ensures.ends unstarved)
 
 pub returns-in-Err-clause-starved : goal.returns-in-Err-clause-starved
 returns-in-Err-clause-starved g c starved =

@@ -35,7 +35,7 @@ returns-in-Err-clause-stopped g c = λ starved.
       record stopped { session_state = next },
       inr (
         stopped,
-        record { why = c.in-Err.stop; stopped = c.in-Err.ensures.stops; answer_given = c.stop_line.ensures; on = refl },
+        record { why = c.in-Err.stop; stopped = c.in-Err.ensures.stops; text = c.stop_line.ensures; on = refl },
         published_or c.publish-published.result stopped mid next refl c.publish-published.ensures.next c.publish-published.ensures.unchanged,
       ),
       c.write_reply-in-Err.ensures.takes next,

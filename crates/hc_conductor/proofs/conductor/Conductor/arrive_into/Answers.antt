@@ -14,7 +14,7 @@ invariant_of-self c =
     record {
       groups = i.groups ∙ sym same.0;
       legal = i.legal;
-      answer_given = i.answer_given ∙ ap updates_of (sym same.1);
+      updates = i.updates ∙ ap updates_of (sym same.1);
       after_it = i.after_it ∙ ap state_of (sym same.1);
       rings = i.rings;
     }

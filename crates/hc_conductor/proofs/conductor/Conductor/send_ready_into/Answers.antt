@@ -12,7 +12,7 @@ invariant_of-self-2 c =
     record {
       groups = i.groups ∙ (sym (opened-after c.self.inside.core.history (SendsReady c.args.tasks.now)) ∙ ap (λ s. opened_with s.history) after);
       legal = i.legal;
-      answer_given = i.answer_given ∙ ap (λ s. updates_of s.taken) after;
+      updates = i.updates ∙ ap (λ s. updates_of s.taken) after;
       after_it = i.after_it ∙ ap (λ s. state_of s.taken) after;
       rings = i.rings;
     }

@@ -11,7 +11,7 @@ invariant_of-self c =
     record {
       groups = i.groups ∙ sym (opened-answered _ _ _ _ c.step.ensures.answer);
       legal = i.legal;
-      answer_given = i.answer_given ∙ ap updates_of same;
+      updates = i.updates ∙ ap updates_of same;
       after_it = i.after_it ∙ ap state_of same;
       rings = i.rings;
     }

@@ -33,7 +33,7 @@ invariant_of-self c =
     record {
       groups = i.groups ∙ (sym (opened-after_all _ (events_of_all 0 took.posts)) ∙ ap (λ (s : CoreState). opened_with s.history) after);
       legal = i.legal;
-      answer_given = i.answer_given ∙ ap (λ (s : CoreState). updates_of s.taken) after;
+      updates = i.updates ∙ ap (λ (s : CoreState). updates_of s.taken) after;
       after_it = i.after_it ∙ ap (λ (s : CoreState). state_of s.taken) after;
       rings = ap length all ∙ (many ∙ i.rings);
     }

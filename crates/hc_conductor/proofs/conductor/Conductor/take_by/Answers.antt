@@ -25,7 +25,7 @@ invariant_of-self c =
     record {
       groups = i.groups ∙ (sym (opened-after_all _ (all_events_by c.args.rule 0 took.posts)) ∙ ap (λ s. opened_with s.history) after);
       legal = i.legal;
-      answer_given = i.answer_given ∙ ap (λ s. updates_of s.taken) after;
+      updates = i.updates ∙ ap (λ s. updates_of s.taken) after;
       after_it = i.after_it ∙ ap (λ s. state_of s.taken) after;
       rings = ap length all ∙ (many ∙ i.rings);
     }

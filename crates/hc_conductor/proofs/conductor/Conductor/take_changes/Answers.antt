@@ -17,13 +17,13 @@ invariant_of-self c =
     let before : all_taken p ≡ conductor_published p ++ conductor_pending p = ap (λ w. conductor_published p ++ conductor_pending p ++ w) none ∙ append-nil (conductor_published p ++ conductor_pending p) in
     let turned : reverse c.reverse.new.self.items ≡ more = ap reverse c.reverse.ensures.items ∙ reverse-reverse more in
     let all = ap (λ w. conductor_published p ++ conductor_pending p ++ w) turned ∙ ap (λ w. w ++ more) (sym before) in
-    let was : Says (conductor_origin p).groups p.core.taken (all_taken p) = record { legal = i.legal; answer_given = i.answer_given; after_it = i.after_it } in
+    let was : Says (conductor_origin p).groups p.core.taken (all_taken p) = record { legal = i.legal; updates = i.updates; after_it = i.after_it } in
     let now = says-more (conductor_origin p).groups p.core.taken p.core.history (all_taken p) more _ was c.take_changes_into-changes.ensures.updates all in
     let after = sym c.take_changes_into-changes.ensures.taken in
     record {
       groups = i.groups ∙ ap (λ s. opened_with s.history) after;
       legal = now.legal;
-      answer_given = now.answer_given ∙ ap (λ s. updates_of s.taken) after;
+      updates = now.updates ∙ ap (λ s. updates_of s.taken) after;
       after_it = now.after_it ∙ ap (λ s. state_of s.taken) after;
       rings = i.rings;
     }

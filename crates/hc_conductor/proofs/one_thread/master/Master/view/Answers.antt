@@ -70,9 +70,9 @@ returns-clause-after_it c = λ (says : PublishesAll c.args.self.now.conductor).
     let m = c.args.self.now in
     let history = master_history m in
     let reachable = subst (λ (s : CoreState). IsReachable s.history) (c.core.ensures.core ∙ ap (λ (x : Mastering). x.conductor.core) c.self.view_is) c.plan.ensures.reachable in
-    let groups = subst (λ (x : Mastering). (conductor_origin x.conductor).groups ≡ opened_with (master_history x)) c.self.view_is c.core.ensures.is_placed.groups in
+    let groups = subst (λ (x : Mastering). (conductor_origin x.conductor).groups ≡ opened_with (master_history x)) c.self.view_is c.core.ensures.conducting.groups in
     let answer_given : ChangesSince = record { groups = opened_with history; changes = conductor_published m.conductor } in
-    let shows = subst (λ (t : ChangesSince). ShowsHistory history t) (answer_given-same answer_given (master_shown m) (sym groups) refl) (c.shows_what_is_read.ensures history (conductor_published m.conductor) reachable says.legal says.answer_given) in
+    let shows = subst (λ (t : ChangesSince). ShowsHistory history t) (answer_given-same answer_given (master_shown m) (sym groups) refl) (c.shows_what_is_read.ensures history (conductor_published m.conductor) reachable says.legal says.updates) in
     IfOk-weaker c.replace_with.result (IsViewOf (master_shown m) c.args.task c.args.number) (IsViewAfter history c.args.task c.args.number)
     (λ viewed is. view-after_it history (master_shown m) c.args.task c.args.number viewed shows is) (returns-clause-viewed c)
 
