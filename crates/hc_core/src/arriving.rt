@@ -151,7 +151,7 @@ impl Core {
     /// changes. Else it is recorded, and its answer gives datagram by datagram what it is. `AllocError` where a
     /// growth was refused, and nothing changed.
     pub(crate) fn arrive(&mut self, alloc: Global, bytes: &[u8]) -> Result<Answer, AllocError>
-        ensures answer { IfOk result (λ answer_given. answer_given ≡ answer_to self.old.history (Arrives bytes.now)) }
+        ensures answer { IfOk result (λ returned. returned ≡ answer_to self.old.history (Arrives bytes.now)) }
         ensures early { IfSome (fault_in bytes.now) (λ fault. result ≡ Ok (answer.Refused (frame_refusal fault))) }
         ensures entries { OnOk result (self.new ≡ record self.old { history = entries_after self.old.history (Arrives bytes.now) }) }
         ensures unchanged { OnErr result (self.new ≡ self.old) }

@@ -79,7 +79,7 @@ impl Core {
     /// growth was refused, and nothing changed. A fault that the edit has by itself, of the faults 1 to 11, is
     /// reported whatever memory does. No caller asks which tasks will wait, so that is not worked out.
     pub(crate) fn edit(&mut self, alloc: Global, edit: &Edit) -> Result<Answer, EditFault>
-        ensures answer { IfOk result (λ answer_given. answer_given ≡ edit_answer (state_of self.old.history) (state_after (state_of self.old.history) edit.now)) }
+        ensures answer { IfOk result (λ returned. returned ≡ edit_answer (state_of self.old.history) (state_after (state_of self.old.history) edit.now)) }
         ensures accepted { OnOk result (edited (state_of self.old.history) edit.now ≡ Ok (state_after (state_of self.old.history) edit.now)) }
         ensures refused { IfErr result (λ fault. fault ≢ Memory → edited (state_of self.old.history) edit.now ≡ Err fault) }
         ensures own { IfSome (own_fault (state_of self.old.history).groups edit.now) (λ fault. result ≡ Err fault) }

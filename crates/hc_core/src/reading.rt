@@ -140,7 +140,7 @@ impl Core {
 
     /// The image of a task in the present epoch.
     fn image(&self, alloc: Global, task: u8) -> Result<Answer, AllocError>
-        ensures answer { IfOk result (λ answer_given. answer_given ≡ answer_to self.now.history (Reads task)) }
+        ensures answer { IfOk result (λ returned. returned ≡ answer_to self.now.history (Reads task)) }
         ensures early { IfSome (lowest (read_faults task)) (λ fault. result ≡ Ok (answer.Refused fault)) }
     {
         if task >= TASKS {
@@ -156,9 +156,9 @@ impl Core {
     /// data of its last good answer in this epoch, or none where it had none. A task over 7 is refused with
     /// `NoSuchTask`, whatever memory does. `AllocError` where a growth was refused.
     pub fn read(&self, alloc: Global, task: u8) -> Result<Answer, AllocError>
-        ensures answer { IfOk result (λ answer_given. answer_given ≡ answer_to self.now.history (Reads task)) }
+        ensures answer { IfOk result (λ returned. returned ≡ answer_to self.now.history (Reads task)) }
         ensures early { IfSome (lowest (read_faults task)) (λ fault. result ≡ Ok (answer.Refused fault)) }
-        ensures shows { IfOk result (λ answer_given. task < TASKS → ShowsLastData self.now.history task answer_given) }
+        ensures shows { IfOk result (λ returned. task < TASKS → ShowsLastData self.now.history task returned) }
     {
         self.image(alloc, task)
     }

@@ -203,7 +203,7 @@ impl Core {
         frames: &mut Vec<Sending>,
     ) -> Result<Answer, CoreFault>
         requires { AreSentTogether tasks.now }
-        ensures answer { IfOk result (λ answer_given. answer_given ≡ answer_to self.old.history (SendsReady tasks.now)) }
+        ensures answer { IfOk result (λ returned. returned ≡ answer_to self.old.history (SendsReady tasks.now)) }
         ensures entries { OnOk result (self.new ≡ record self.old { history = entries_after self.old.history (SendsReady tasks.now) }) }
         ensures refused { IfErr result (λ fault. fault ≢ Memory → lowest (ready_faults self.old.history tasks.now) ≡ Some fault) }
         ensures early { IfSome (lowest (early_ready_faults self.old.history tasks.now)) (λ fault. result ≡ Err fault) }
@@ -218,7 +218,7 @@ impl Core {
     /// Sends ready tasks for `step`, with a list of frames that is used again.
     pub(crate) fn send_ready(&mut self, alloc: Global, tasks: &[u8]) -> Result<Answer, CoreFault>
         requires { AreSentTogether tasks.now }
-        ensures answer { IfOk result (λ answer_given. answer_given ≡ answer_to self.old.history (SendsReady tasks.now)) }
+        ensures answer { IfOk result (λ returned. returned ≡ answer_to self.old.history (SendsReady tasks.now)) }
         ensures entries { OnOk result (self.new ≡ record self.old { history = entries_after self.old.history (SendsReady tasks.now) }) }
         ensures refused { IfErr result (λ fault. fault ≢ Memory → lowest (ready_faults self.old.history tasks.now) ≡ Some fault) }
         ensures early { IfSome (lowest (early_ready_faults self.old.history tasks.now)) (λ fault. result ≡ Err fault) }

@@ -91,7 +91,7 @@ impl Core {
         frames: &mut Vec<Sending>,
     ) -> Result<Answer, CoreFault>
         requires { AreSentTogether tasks.now }
-        ensures answer { IfOk result (λ answer_given. answer_given ≡ answer_to self.old.history (SendsTasks tasks.now)) }
+        ensures answer { IfOk result (λ returned. returned ≡ answer_to self.old.history (SendsTasks tasks.now)) }
         ensures entries { OnOk result (self.new ≡ record self.old { history = entries_after self.old.history (SendsTasks tasks.now) }) }
         ensures refused { IfErr result (λ fault. fault ≢ Memory → lowest (task_faults self.old.history tasks.now) ≡ Some fault) }
         ensures early { IfSome (lowest (early_faults (length (owed_blocks self.old.history)) tasks.now)) (λ fault. result ≡ Err fault) }
@@ -106,7 +106,7 @@ impl Core {
     /// Sends tasks for `step`, with a list of frames that is used again.
     pub(crate) fn send(&mut self, alloc: Global, tasks: &[u8]) -> Result<Answer, CoreFault>
         requires { AreSentTogether tasks.now }
-        ensures answer { IfOk result (λ answer_given. answer_given ≡ answer_to self.old.history (SendsTasks tasks.now)) }
+        ensures answer { IfOk result (λ returned. returned ≡ answer_to self.old.history (SendsTasks tasks.now)) }
         ensures entries { OnOk result (self.new ≡ record self.old { history = entries_after self.old.history (SendsTasks tasks.now) }) }
         ensures refused { IfErr result (λ fault. fault ≢ Memory → lowest (task_faults self.old.history tasks.now) ≡ Some fault) }
         ensures early { IfSome (lowest (early_faults (length (owed_blocks self.old.history)) tasks.now)) (λ fault. result ≡ Err fault) }

@@ -68,7 +68,7 @@ impl Core {
     /// refused with `NoSuchTask`, even if memory is short. Fails with `AllocError` if an allocation fails (this project's
     /// profile).
     pub fn steady_read(&self, alloc: Global, task: u8) -> Result<Answer, AllocError>
-        ensures answer { IfOk result (λ answer_given. answer_given ≡ steady_answer self.now.history task) }
+        ensures answer { IfOk result (λ returned. returned ≡ steady_answer self.now.history task) }
         ensures early { IfSome (lowest (read_faults task)) (λ fault. result ≡ Ok (answer.Refused fault)) }
     {
         if task >= TASKS {

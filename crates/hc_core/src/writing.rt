@@ -112,7 +112,7 @@ impl Core {
     /// `SerialsSpent` where no serial is left; and of both the first. `Memory` where a growth was refused, and
     /// only after these. Where it is refused, nothing changed.
     pub(crate) fn write(&mut self, alloc: Global) -> Result<Answer, CoreFault>
-        ensures answer { IfOk result (λ answer_given. answer_given ≡ answer_to self.old.history SendsWrite) }
+        ensures answer { IfOk result (λ returned. returned ≡ answer_to self.old.history SendsWrite) }
         ensures entries { OnOk result (self.new ≡ record self.old { history = entries_after self.old.history SendsWrite }) }
         ensures refused { IfErr result (λ fault. fault ≢ Memory → lowest (write_faults self.old.history (owed_blocks self.old.history)) ≡ Some fault) }
         ensures early { IfSome (lowest (write_faults self.old.history (owed_blocks self.old.history))) (λ fault. result ≡ Err fault) }
@@ -126,7 +126,7 @@ impl Core {
 
     /// The first owed blocks are sent in one frame, as many as it holds, with the next serial. Refused as `write` is.
     pub(crate) fn write_all(&mut self, alloc: Global) -> Result<Answer, CoreFault>
-        ensures answer { IfOk result (λ answer_given. answer_given ≡ answer_to self.old.history SendsWrites) }
+        ensures answer { IfOk result (λ returned. returned ≡ answer_to self.old.history SendsWrites) }
         ensures entries { OnOk result (self.new ≡ record self.old { history = entries_after self.old.history SendsWrites }) }
         ensures refused { IfErr result (λ fault. fault ≢ Memory → lowest (write_faults self.old.history (owed_blocks self.old.history)) ≡ Some fault) }
         ensures early { IfSome (lowest (write_faults self.old.history (owed_blocks self.old.history))) (λ fault. result ≡ Err fault) }
@@ -253,7 +253,7 @@ impl Core {
     /// Further owed blocks are sent in one frame, as `write_further_into` does, in memory of its own: refused as that is, but
     /// that the frame always has room.
     pub(crate) fn write_further(&mut self, alloc: Global) -> Result<Answer, CoreFault>
-        ensures answer { IfOk result (λ answer_given. answer_given ≡ answer_to self.old.history SendsFurther) }
+        ensures answer { IfOk result (λ returned. returned ≡ answer_to self.old.history SendsFurther) }
         ensures entries { OnOk result (self.new ≡ record self.old { history = entries_after self.old.history SendsFurther }) }
         ensures refused { IfErr result (λ fault. fault ≢ Memory → lowest (further_faults self.old.history) ≡ Some fault) }
         ensures early { IfSome (lowest (further_faults self.old.history)) (λ fault. result ≡ Err fault) }
