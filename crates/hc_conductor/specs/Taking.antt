@@ -69,9 +69,9 @@ abbrev pub one_if : Bool → ℕ
 one_if b = if b then 1 else 0
 
 -- the count of the accepted events and of the refused ones; a refused post leaves the core's record unchanged
-pub record CountsPosts (history : History) (steps : List Step) (answer_given : Taken) : Type 0 where
-  pub accepted : answer_given.accepted ≡ posted_in history steps
-  pub all : answer_given.accepted + answer_given.refused ≡ length steps
+pub record CountsPosts (history : History) (steps : List Step) (counted : Taken) : Type 0 where
+  pub accepted : counted.accepted ≡ posted_in history steps
+  pub all : counted.accepted + counted.refused ≡ length steps
 
 -- these posts, at most this many, came out of the ring, in order; their buffers went back, if a place for each was known, and
 -- no other buffer did
@@ -109,32 +109,32 @@ AreTaken (old ∷ olds) (new ∷ updates) (posts ∷ others) = AreTakenFrom POST
 AreTaken olds updates others = ⊥
 
 -- some posts of a task's ring, at most this many, became events of the core, in order
-pub record TakesFrom (rule : PostRule) (task most : ℕ) (before after : CoreState) (old new : PostReceiver) (answer_given : Taken) : Type 0 where
+pub record TakesFrom (rule : PostRule) (task most : ℕ) (before after : CoreState) (old new : PostReceiver) (counted : Taken) : Type 0 where
   pub posts : List Post
   pub ring : AreTakenFrom most old new posts
   pub core : after ≡ record before { history = entries_after_all before.history (events_by rule task posts) }
-  pub counts : CountsPosts before.history (events_by rule task posts) answer_given
+  pub counts : CountsPosts before.history (events_by rule task posts) counted
 
 -- some posts of each ring, from this task's on, became events of the core, in order
-pub record TakesFromAll (rule : PostRule) (task : ℕ) (before after : CoreState) (old new : List PostReceiver) (answer_given : Taken) : Type 0 where
+pub record TakesFromAll (rule : PostRule) (task : ℕ) (before after : CoreState) (old new : List PostReceiver) (counted : Taken) : Type 0 where
   pub posts : List (List Post)
   pub rings : AreTaken old new posts
   pub core : after ≡ record before { history = entries_after_all before.history (all_events_by rule task posts) }
-  pub counts : CountsPosts before.history (all_events_by rule task posts) answer_given
+  pub counts : CountsPosts before.history (all_events_by rule task posts) counted
 
 -- some posts of each ring became events of the core, and nothing else did: the tasks ascending and each ring's posts in order
-pub record TakesPosts (old new : Conducting) (answer_given : Taken) : Type 0 where
+pub record TakesPosts (old new : Conducting) (counted : Taken) : Type 0 where
   pub posts : List (List Post)
   pub rings : AreTaken old.rings new.rings posts
   pub entries : core_history new ≡ entries_after_all (core_history old) (events_of_all 0 posts)
-  pub counts : CountsPosts (core_history old) (events_of_all 0 posts) answer_given
+  pub counts : CountsPosts (core_history old) (events_of_all 0 posts) counted
 
 -- some posts of each ring became steady events of the core, and nothing else did: the tasks ascending and each ring's posts in order
-pub record TakesSteadyPosts (old new : Conducting) (answer_given : Taken) : Type 0 where
+pub record TakesSteadyPosts (old new : Conducting) (counted : Taken) : Type 0 where
   pub posts : List (List Post)
   pub rings : AreTaken old.rings new.rings posts
   pub entries : core_history new ≡ entries_after_all (core_history old) (steady_events_of_all 0 posts)
-  pub counts : CountsPosts (core_history old) (steady_events_of_all 0 posts) answer_given
+  pub counts : CountsPosts (core_history old) (steady_events_of_all 0 posts) counted
 
 -- posts of each ring became the events of the core that a rule makes of them
 abbrev pub TakesPostsBy : PostRule → Conducting → Conducting → Taken → Type 0

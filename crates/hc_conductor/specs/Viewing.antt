@@ -17,7 +17,7 @@ viewed_place table number = option_and_then (place_in table) (variable_of number
 
 -- the value of the variable with a number for a task in what is shown, or the reason for which the task gets none
 abbrev pub value_answered : ChangesSince → ℕ → ℕ → Result ℕ ViewFault
-value_answered answer_given task number = value_by (data_shown answer_given) task (viewed_place (table_shown answer_given) number)
+value_answered shown task number = value_by (data_shown shown) task (viewed_place (table_shown shown) number)
 
 -- the value of the variable with a number for a task after a record, by the places of its line and the data that tasks read
 -- there
@@ -25,9 +25,9 @@ abbrev pub value_at : History → ℕ → ℕ → Result ℕ ViewFault
 value_at history task number = value_by (slot_of history) task (viewed_place (table_of (line_of history)) number)
 
 -- a view of what is shown: the epoch, and the variable's value in it
-pub record IsViewOf (answer_given : ChangesSince) (task number : ℕ) (viewed : Viewed) : Type 0 where
-  pub epoch : viewed.epoch ≡ epoch_shown answer_given
-  pub value : viewed.value ≡ value_answered answer_given task number
+pub record IsViewOf (shown : ChangesSince) (task number : ℕ) (viewed : Viewed) : Type 0 where
+  pub epoch : viewed.epoch ≡ epoch_shown shown
+  pub value : viewed.value ≡ value_answered shown task number
 
 -- a view of all that a record gives: the epoch, and the variable's value in it
 pub record IsViewAfter (history : History) (task number : ℕ) (viewed : Viewed) : Type 0 where

@@ -41,7 +41,7 @@ use Rattle.hc_sendings.specs.Waiting.{nothing}
 use Rattle.hc_images.specs.Image.{DatagramImage}
 use Rattle.hc_images.specs.Moves.{Moves, moved_table}
 use Rattle.hc_images.specs.Packed.{HoldsOutputValues, Packed}
-use Rattle.hc_images.specs.Values.{unchanged as unchanged_over}
+use Rattle.hc_images.specs.Values.{kept_values as unchanged_over}
 use Rattle.hc_owed.specs.RegisterState.{RegisterState, register_state_of}
 use Rattle.hc_owed.specs.Laws.{known_over}
 use Rattle.hc_owed.specs.declared.area.JudgedArea.{JudgedArea}

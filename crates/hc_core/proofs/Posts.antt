@@ -14,7 +14,7 @@ use Rattle.hc_events.specs.Points.{line_of, state_of}
 use Rattle.hc_events.specs.Sendings.{Frame, Named}
 use Rattle.hc_events.specs.Steps.{with_sent}
 use Rattle.hc_images.specs.Packed.{HoldsOutputValues, Packed}
-use Rattle.hc_images.specs.Values.{unchanged, posted_values}
+use Rattle.hc_images.specs.Values.{kept_values, posted_values}
 use Rattle.hc_images.proofs.lemmas.Bits.{AreAlike, holds-alike}
 use Rattle.hc_images.proofs.lemmas.LaidOut.{offset-of_line, place-of_line}
 use Rattle.hc_core.proofs.Awaits.{waits-posted}
@@ -49,10 +49,10 @@ values-posted history task bytes packed project holds = search (rules, holds-ali
 
 -- an accepted edit
 
-unchanged_same : (history : History) (edit : Edit) (variable k : ℕ) → unchanged (table_of (line_of history)) (value_bit history) variable k ≡ value_bit (Edited edit ∷ history) variable k
+unchanged_same : (history : History) (edit : Edit) (variable k : ℕ) → kept_values (table_of (line_of history)) (value_bit history) variable k ≡ value_bit (Edited edit ∷ history) variable k
 unchanged_same history edit variable k = search (rules, place-of_line)
 
-pub values-edited : (history : History) (edit : Edit) (packed : Packed) → HoldsOutputValues (table_of (line_of (Edited edit ∷ history))) (unchanged (table_of (line_of history)) (value_bit history)) packed
+pub values-edited : (history : History) (edit : Edit) (packed : Packed) → HoldsOutputValues (table_of (line_of (Edited edit ∷ history))) (kept_values (table_of (line_of history)) (value_bit history)) packed
     → HoldsValues (Edited edit ∷ history) packed
 values-edited history edit packed holds = search (rules, holds-alike, unchanged_same)
 

@@ -38,21 +38,21 @@ pub record CoreParts : Type 0 where
   pub changes : List Change
 
 -- each part says what the record says
-pub record Agree (unchanged : CoreParts) (history taken : History) : Type 0 where
+pub record Agree (parts : CoreParts) (history taken : History) : Type 0 where
   pub accepted : AreAccepted history
-  pub state : unchanged.plan ≡ state_of history
+  pub state : parts.plan ≡ state_of history
   pub project : lowest_fault (groups_of (state_of history).groups) ≡ None
   pub uncrowded : over_limit_task (line_of history) ≡ None
-  pub serial : unchanged.serial ≡ next_serial history
-  pub left : unchanged.serial ≤ SETUP_SERIAL
-  pub waits : Waits history unchanged.awaited
-  pub slots : ShowsSteadyData history unchanged.inputs
-  pub dates : ShowAges history unchanged.ages
-  pub epochs : ShowEpochs history unchanged.epochs
-  pub values : HoldsValues history unchanged.outputs
-  pub known : unchanged.owed ≡ register_state_of (known_bytes history) (state_of history)
-  pub ready : unchanged.readiness ≡ areas_of history
-  pub shows : ShowUpdates taken history unchanged.changes
+  pub serial : parts.serial ≡ next_serial history
+  pub left : parts.serial ≤ SETUP_SERIAL
+  pub waits : Waits history parts.awaited
+  pub slots : ShowsSteadyData history parts.inputs
+  pub dates : ShowAges history parts.ages
+  pub epochs : ShowEpochs history parts.epochs
+  pub values : HoldsValues history parts.outputs
+  pub known : parts.owed ≡ register_state_of (known_bytes history) (state_of history)
+  pub ready : parts.readiness ≡ areas_of history
+  pub shows : ShowUpdates taken history parts.changes
 
 -- what contracts see of a core
 abbrev pub state_in : Inside → CoreState

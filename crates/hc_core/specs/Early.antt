@@ -37,4 +37,4 @@ early_fault history SendsFurther = lowest (further_faults history)
 
 -- it is reported
 abbrev pub ShowsEarly : History → Step → Answer → Type 0
-ShowsEarly history step answer_given = IfSome (early_fault history step) (λ fault. answer_given ≡ answer.Refused fault)
+ShowsEarly history step returned = IfSome (early_fault history step) (λ fault. returned ≡ answer.Refused fault)

@@ -72,9 +72,9 @@ IsLastData history task d None = ¬ (GoodAnswer history task d)
 IsLastData history task d (Some bytes) = AreLastData history task d bytes
 
 -- an image of a task: the present epoch, and of each datagram that the task has in the present line these data, or none
-pub record ShowsLastData (history : History) (task : ℕ) (answer_given : Answer) : Type 0 where
+pub record ShowsLastData (history : History) (task : ℕ) (returned : Answer) : Type 0 where
   pub slots : List (Option (List ℕ))
-  pub image : answer_given ≡ answer.Image (epoch_of history) slots
+  pub image : returned ≡ answer.Image (epoch_of history) slots
   pub counted : length slots ≡ datagram_count (task_places task (line_of history))
   pub each : (d : ℕ) (slot : Option (List ℕ)) → slice_get slots d ≡ Some slot → IsLastData history task d slot
 
@@ -84,20 +84,20 @@ TasksReadLastData history = (task : ℕ) → task < TASKS → ShowsLastData hist
 
 -- a read in a list of events: the events before it, with their answers, lead to a history, and the answer after it shows the last data; or memory was
 -- wanting
-pub record ShowsAt (history : History) (steps : List Step) (answers : List Answer) (n task : ℕ) (answer_given : Answer) : Type 0 where
+pub record ShowsAt (history : History) (steps : List Step) (answers : List Answer) (n task : ℕ) (returned : Answer) : Type 0 where
   pub point : History
   pub reached : MayAnswerAll history (take n steps) (take n answers) point
-  pub shows : ShowsLastData point task answer_given ⊎ (answer_given ≡ answer.Refused Memory)
+  pub shows : ShowsLastData point task returned ⊎ (returned ≡ answer.Refused Memory)
 
 -- whatever a task reads among events
 abbrev pub ReadsShowLastData : History → List Step → List Answer → Type 0
 ReadsShowLastData history steps answers =
-    (n task : ℕ) (answer_given : Answer) → task < TASKS → slice_get steps n ≡ Some (Reads task) → slice_get answers n ≡ Some answer_given
-    → ShowsAt history steps answers n task answer_given
+    (n task : ℕ) (returned : Answer) → task < TASKS → slice_get steps n ≡ Some (Reads task) → slice_get answers n ≡ Some returned
+    → ShowsAt history steps answers n task returned
 
 -- a stale arrival leaves nothing: whatever comes after it has the same answers as without it, what tasks read among them
 abbrev pub StaleLeavesNothing : History → Answer → History → Type 0
-StaleLeavesNothing history answer_given next = answer_given ≡ answer.Stale → (later : List Step) → SameAfter next history later
+StaleLeavesNothing history returned next = returned ≡ answer.Stale → (later : List Step) → SameAfter next history later
 
 -- nor do all of a record's stale arrivals
 abbrev pub IsAsWithoutStale : History → Type 0
@@ -108,16 +108,16 @@ IsAsWithoutStale history = (later : List Step) → SameAfter history (without_st
 abbrev pub leaves_nothing : Answer → Bool
 leaves_nothing answer.Stale = true
 leaves_nothing (answer.Refused Memory) = true
-leaves_nothing answer_given = false
+leaves_nothing returned = false
 
 -- the events whose answers leave something
 abbrev pub events_left : List Step → List Answer → List Step
-events_left (step ∷ steps) (answer_given ∷ answers) = if leaves_nothing answer_given then events_left steps answers else step ∷ events_left steps answers
+events_left (step ∷ steps) (returned ∷ answers) = if leaves_nothing returned then events_left steps answers else step ∷ events_left steps answers
 events_left _ _ = []
 
 -- these answers
 abbrev pub answers_left : List Answer → List Answer
-answers_left answers = filter (λ answer_given. not (leaves_nothing answer_given)) answers
+answers_left answers = filter (λ returned. not (leaves_nothing returned)) answers
 
 -- without the events whose answers leave nothing, the others have just the answers that they had, and the record that they lead to says the same as the one that was left
 pub record GoesWithoutThem (history : History) (steps : List Step) (answers : List Answer) (next : History) : Type 0 where

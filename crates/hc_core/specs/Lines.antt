@@ -16,14 +16,14 @@ wants_memory _ = false
 
 -- the edits among events, without those refused with `Memory`
 abbrev pub carried_edit : Step → Answer → List Edit
-carried_edit (Edits edit) answer_given = if wants_memory answer_given then [] else edit ∷ []
-carried_edit step answer_given = []
+carried_edit (Edits edit) returned = if wants_memory returned then [] else edit ∷ []
+carried_edit step returned = []
 
 -- the edits among events, in order, without those refused with `Memory`, by the answers to the events
 abbrev pub carried_edits : List Step → List Answer → List Edit
 carried_edits [] answers = []
 carried_edits (step ∷ steps) [] = []
-carried_edits (step ∷ steps) (answer_given ∷ answers) = carried_edit step answer_given ++ carried_edits steps answers
+carried_edits (step ∷ steps) (returned ∷ answers) = carried_edit step returned ++ carried_edits steps answers
 
 -- the line is the one that these edits lead to: a refused one changes nothing
 abbrev pub IsLineAfter : History → List Step → List Answer → History → Type 0

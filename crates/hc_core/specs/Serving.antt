@@ -19,7 +19,7 @@ IsAsked step = Unit {0}
 
 -- what an event is answered, by what the call that serves it gave: its answer, or a refusal
 abbrev pub answer_of : Result Answer CoreFault → Answer
-answer_of (Ok answer_given) = answer_given
+answer_of (Ok returned) = returned
 answer_of (Err fault) = answer.Refused fault
 
 -- the answer to a post, by what its call gave: posted, or a refusal
@@ -44,18 +44,18 @@ answer_of_unplug (Err fault) = answer.Refused fault
 
 -- the answer to an edit, by what its call gave: its answer, or a refusal by the edit's fault
 abbrev pub answer_of_edit : Result Answer EditFault → Answer
-answer_of_edit (Ok answer_given) = answer_given
+answer_of_edit (Ok returned) = returned
 answer_of_edit (Err fault) = answer.Refused (edit_refusal fault)
 
 -- the answer of a call that can fail with `Memory` alone: its answer, or the refusal for it
 abbrev pub answer_or_memory : {E : Type 0} → Result Answer E → Answer
-answer_or_memory (Ok answer_given) = answer_given
+answer_or_memory (Ok returned) = returned
 answer_or_memory (Err error) = answer.Refused Memory
 
 -- events one after another, each with its answer, and the record that they leave; a fault that is judged before memory is taken is
 -- reported
 abbrev pub MayAnswerAll : History → List Step → List Answer → History → Type 0
 MayAnswerAll history [] [] next = next ≡ history
-MayAnswerAll history [] (answer_given ∷ answers) next = ⊥
+MayAnswerAll history [] (returned ∷ answers) next = ⊥
 MayAnswerAll history (step ∷ steps) [] next = ⊥
-MayAnswerAll history (step ∷ steps) (answer_given ∷ answers) next = (between : History) × MayAnswer history step answer_given between × MayAnswerAll between steps answers next × ShowsEarly history step answer_given
+MayAnswerAll history (step ∷ steps) (returned ∷ answers) next = (between : History) × MayAnswer history step returned between × MayAnswerAll between steps answers next × ShowsEarly history step returned

@@ -146,9 +146,9 @@ impl Core {
         self.outputs.change(moves, &edit.report().swap);
         let report = self.plan.carry_out(edit);
         raise_epochs(&mut self.epochs, report.epoch, changed);
-        let answer_given = judged_answer(&report);
+        let returned = judged_answer(&report);
         self.history = self.history.edited(report.swap.edit());
         add_swap(&mut self.changes, room, report.swap);
-        answer_given
+        returned
     }
 }

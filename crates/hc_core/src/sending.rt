@@ -113,8 +113,8 @@ impl Core {
         ensures unchanged { OnErr result (self.new ≡ self.old) }
     {
         let mut frames = mem::replace(&mut self.frames, Vec::new(alloc));
-        let answer_given = self.send_by(alloc, tasks, &mut frames);
+        let returned = self.send_by(alloc, tasks, &mut frames);
         self.frames = frames;
-        answer_given
+        returned
     }
 }

@@ -16,71 +16,71 @@ use hc_records::faults::EditFault;
 use std::alloc::{AllocError, Global};
 
 /// The answer, or that the event was refused.
-fn answer_of(answer_given: Result<Answer, CoreFault>) -> Answer
-    ensures { result ≡ answer_of answer_given }
+fn answer_of(returned: Result<Answer, CoreFault>) -> Answer
+    ensures { result ≡ answer_of returned }
 {
-    match answer_given {
-        Ok(answer_given) => answer_given,
+    match returned {
+        Ok(returned) => returned,
         Err(fault) => Answer::Refused(fault),
     }
 }
 
 /// Returns the answer to a post, from the result of its call.
-fn answer_of_post(answer_given: Result<(), CoreFault>) -> Answer
-    ensures { result ≡ answer_of_post answer_given }
+fn answer_of_post(returned: Result<(), CoreFault>) -> Answer
+    ensures { result ≡ answer_of_post returned }
 {
-    match answer_given {
+    match returned {
         Ok(()) => Answer::Posted,
         Err(fault) => Answer::Refused(fault),
     }
 }
 
 /// Returns the answer to a lost slave, from the result of its call.
-fn answer_of_forget(answer_given: Result<(), CoreFault>) -> Answer
-    ensures { result ≡ answer_of_forget answer_given }
+fn answer_of_forget(returned: Result<(), CoreFault>) -> Answer
+    ensures { result ≡ answer_of_forget returned }
 {
-    match answer_given {
+    match returned {
         Ok(()) => Answer::Forgotten,
         Err(fault) => Answer::Refused(fault),
     }
 }
 
 /// The answer to clearing a slave, by what its call gave.
-fn answer_of_clear(answer_given: Result<(), CoreFault>) -> Answer
-    ensures { result ≡ answer_of_clear answer_given }
+fn answer_of_clear(returned: Result<(), CoreFault>) -> Answer
+    ensures { result ≡ answer_of_clear returned }
 {
-    match answer_given {
+    match returned {
         Ok(()) => Answer::Cleared,
         Err(fault) => Answer::Refused(fault),
     }
 }
 
 /// The answer to unplugging a slave, by what its call gave.
-fn answer_of_unplug(answer_given: Result<(), CoreFault>) -> Answer
-    ensures { result ≡ answer_of_unplug answer_given }
+fn answer_of_unplug(returned: Result<(), CoreFault>) -> Answer
+    ensures { result ≡ answer_of_unplug returned }
 {
-    match answer_given {
+    match returned {
         Ok(()) => Answer::Unplugged,
         Err(fault) => Answer::Refused(fault),
     }
 }
 
 /// Returns the answer to an edit, from the result of its call.
-fn answer_of_edit(answer_given: Result<Answer, EditFault>) -> Answer
-    ensures { result ≡ answer_of_edit answer_given }
+fn answer_of_edit(returned: Result<Answer, EditFault>) -> Answer
+    ensures { result ≡ answer_of_edit returned }
 {
-    match answer_given {
-        Ok(answer_given) => answer_given,
+    match returned {
+        Ok(returned) => returned,
         Err(fault) => Answer::Refused(CoreFault::from(fault)),
     }
 }
 
 /// The answer, or `Memory`.
-fn answer_or_memory(answer_given: Result<Answer, AllocError>) -> Answer
-    ensures { result ≡ answer_or_memory answer_given }
+fn answer_or_memory(returned: Result<Answer, AllocError>) -> Answer
+    ensures { result ≡ answer_or_memory returned }
 {
-    match answer_given {
-        Ok(answer_given) => answer_given,
+    match returned {
+        Ok(returned) => returned,
         Err(_) => Answer::Refused(CoreFault::Memory),
     }
 }

@@ -28,19 +28,19 @@ takes_memory (Unplugs station) = false
 takes_memory step = true
 
 -- the event's answer, and the record after it
-pub record IsAnswered (history : History) (step : Step) (answer_given : Answer) (next : History) : Type 0 where
-  pub answer : answer_given ≡ answer_to history step
+pub record IsAnswered (history : History) (step : Step) (returned : Answer) (next : History) : Type 0 where
+  pub answer : returned ≡ answer_to history step
   pub entries : next ≡ entries_after history step
 
 -- `Memory`, and the history as it was
-pub record IsOutOfMemory (history : History) (step : Step) (answer_given : Answer) (next : History) : Type 0 where
+pub record IsOutOfMemory (history : History) (step : Step) (returned : Answer) (next : History) : Type 0 where
   pub takes : takes_memory step ≡ true
-  pub answer : answer_given ≡ answer.Refused Memory
+  pub answer : returned ≡ answer.Refused Memory
   pub entries : next ≡ history
 
 -- what may be answered to an event, and the record that is then left: `Memory` may take the place of any answer to an event that takes some
 abbrev pub MayAnswer : History → Step → Answer → History → Type 0
-MayAnswer history step answer_given next = IsAnswered history step answer_given next ⊎ IsOutOfMemory history step answer_given next
+MayAnswer history step returned next = IsAnswered history step returned next ⊎ IsOutOfMemory history step returned next
 
 -- so many bytes are needed, and the slice has fewer
 abbrev pub room_faults : ℕ → ℕ → List (Bool × CoreFault)

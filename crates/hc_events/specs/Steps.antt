@@ -53,8 +53,8 @@ pub data Step : Type 0 where
 
 -- a refusal, or else this answer; the record unchanged, or else this one
 abbrev pub unless : Option CoreFault → Answer → Answer
-unless None answer_given = answer_given
-unless (Some fault) answer_given = answer.Refused fault
+unless None returned = returned
+unless (Some fault) returned = answer.Refused fault
 
 -- the record `history` where there is a fault, else `next`
 abbrev pub unless_fault : Option CoreFault → History → History → History

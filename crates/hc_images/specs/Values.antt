@@ -17,8 +17,8 @@ posted_values table task bytes value variable k =
     (place_in table variable) (value variable k)
 
 -- over an edit a variable keeps its value if it had a place; the value of one that had none is 0
-abbrev pub unchanged : Table → (ℕ → ℕ → ℕ) → ℕ → ℕ → ℕ
-unchanged old value variable k = if is_some (place_in old variable) then value variable k else 0
+abbrev pub kept_values : Table → (ℕ → ℕ → ℕ) → ℕ → ℕ → ℕ
+kept_values old value variable k = if is_some (place_in old variable) then value variable k else 0
 
 -- a variable that is in both tables has its bits and its direction in both: it is one entry of a project
 pub record KeepsItsEntry (place another : VariablePlace) : Type 0 where

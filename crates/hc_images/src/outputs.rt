@@ -85,7 +85,7 @@ impl Outputs {
     ghost use Rattle.std.specs.Prelude.{◌≡◌, ℕ, IfOk};
     ghost use Rattle.hc_images.specs.Moves.{moved_table};
     ghost use Rattle.hc_images.specs.Packed.{HasSizes, HoldsOutputValues, IsLaidOut, sent_bytes};
-    ghost use Rattle.hc_images.specs.Values.{KeepEntries, unchanged, posted_values};
+    ghost use Rattle.hc_images.specs.Values.{KeepEntries, kept_values, posted_values};
 
     /// Returns the outputs of a table with all values 0. `AllocError` if an allocation fails; no other call allocates.
     pub fn new(alloc: Global, places: &Places) -> Result<Outputs, AllocError>
@@ -129,7 +129,7 @@ impl Outputs {
         requires laid_out { IsLaidOut (moved_table moves) }
         requires entries { KeepEntries moves.before (moved_table moves) }
         requires sizes { HasSizes moves.before self.old.sent }
-        ensures { (value : ℕ → ℕ → ℕ) → HoldsOutputValues moves.before value self.old → HoldsOutputValues (moved_table moves) (unchanged moves.before value) self.new }
+        ensures { (value : ℕ → ℕ → ℕ) → HoldsOutputValues moves.before value self.old → HoldsOutputValues (moved_table moves) (kept_values moves.before value) self.new }
     {
         let Moves {
             mut moved,

@@ -16,11 +16,11 @@ session_state_in s = record { history = master_history s.master; machines = s.li
 
 -- a record that events lead to, and what is shown is all that it gives: legal changes since its opening, with its
 -- updates
-pub record IsShown (seen : History) (answer_given : ChangesSince) : Type 0 where
+pub record IsShown (seen : History) (shown : ChangesSince) : Type 0 where
   pub reachable : IsReachable seen
-  pub groups : answer_given.groups ≡ opened_with seen
-  pub legal : AreLegal (opened_with seen) answer_given.changes
-  pub updates : map update_in answer_given.changes ≡ updates_of seen
+  pub groups : shown.groups ≡ opened_with seen
+  pub legal : AreLegal (opened_with seen) shown.changes
+  pub updates : map update_in shown.changes ≡ updates_of seen
 
 -- a master at its opening: the opening is shown, and no post waits
 pub record MasterIsAtOpening (m : Mastering) : Type 0 where

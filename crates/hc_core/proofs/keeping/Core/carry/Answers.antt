@@ -108,7 +108,7 @@ returns-clause-answer c =
     let edit = c.args.planned.edit in
     let asked = edit.report.swap.edit in
     let prepared = can.prepared in
-    c.judged_answer-answer_given.ensures
+    c.judged_answer-returned.ensures
     ∙ ap (λ (report : Report). answer.Edited report.epoch report.recut report.moved) c.carry_out-report.ensures.report
     ∙ edited-answer_given edit.old edit.new asked edit.report prepared.accepted prepared.reported
     ∙ ap (λ (state : State). edit_answer state (state_after state asked)) can.made

@@ -9,4 +9,4 @@ use Rattle.hc_core.proofs.keeping.Core.send.Goals as goal
 
 pub returns-clause-early : goal.returns-clause-early
 returns-clause-early c =
-    subst (λ (state : CoreState). IfSome (lowest (early_faults (length (owed_blocks state.history)) c.args.tasks.now)) (λ (fault : CoreFault). c.send_by-answer_given.result ≡ Err fault)) c.self.view_is c.send_by-answer_given.ensures.early
+    subst (λ (state : CoreState). IfSome (lowest (early_faults (length (owed_blocks state.history)) c.args.tasks.now)) (λ (fault : CoreFault). c.send_by-returned.result ≡ Err fault)) c.self.view_is c.send_by-returned.ensures.early

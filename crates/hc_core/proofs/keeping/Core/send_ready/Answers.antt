@@ -8,4 +8,4 @@ use Rattle.hc_core.proofs.keeping.Core.send_ready.Goals as goal
 
 pub returns-clause-early : goal.returns-clause-early
 returns-clause-early c =
-    subst (λ (state : CoreState). IfSome (lowest (early_ready_faults state.history c.args.tasks.now)) (λ (fault : CoreFault). c.send_ready_by-answer_given.result ≡ Err fault)) c.self.view_is c.send_ready_by-answer_given.ensures.early
+    subst (λ (state : CoreState). IfSome (lowest (early_ready_faults state.history c.args.tasks.now)) (λ (fault : CoreFault). c.send_ready_by-returned.result ≡ Err fault)) c.self.view_is c.send_ready_by-returned.ensures.early
