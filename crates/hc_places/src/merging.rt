@@ -153,10 +153,10 @@ pub(crate) fn find_row(rows: &[VariableRow], front: usize, changed: &ChangedRow)
     ensures bound { result ≤ length rows.now }
     ensures below { AreBelow rows.now changed.now.0 result }
 {
-    let answer_given = changed.row();
+    let row = changed.row();
     let variable = changed.variable();
-    if is_row_of(rows, answer_given, variable) || is_count_below(rows, answer_given, variable) {
-        answer_given
+    if is_row_of(rows, row, variable) || is_count_below(rows, row, variable) {
+        row
     } else {
         count_from(rows, front, variable)
     }

@@ -4,7 +4,7 @@ use Rattle.std.proofs.Math.Seq.{take-suc}
 use Rattle.std.proofs.lemmas.List.{drop_more, map-append}
 use Rattle.hc_events.specs.Entries.{History}
 use Rattle.hc_events.specs.Steps.{Arrives, entries_after}
-use Rattle.hc_program.specs.Answers.{answer_given}
+use Rattle.hc_program.specs.Answers.{event_text}
 use Rattle.hc_program.specs.Cycles.{arrivals_text, arrived, cycle_arrived}
 use Rattle.hc_program.specs.Standings.{SessionState, stepped, session_with_history}
 
@@ -27,14 +27,14 @@ arrived_one_more history (first ∷ frames) frame = arrived_one_more (entries_af
 
 -- the next frame was answered
 
-pub next_answered : (frames : List (List ℕ)) (i : ℕ) (d : List ℕ) (history next : History) (old new whole : List ℕ) → i < length frames → new ≡ old ++ answer_given history (Arrives (get_or frames i d))
+pub next_answered : (frames : List (List ℕ)) (i : ℕ) (d : List ℕ) (history next : History) (old new whole : List ℕ) → i < length frames → new ≡ old ++ event_text history (Arrives (get_or frames i d))
     → next ≡ entries_after history (Arrives (get_or frames i d)) → old ++ arrivals_text history (drop i frames) ≡ whole → new ++ arrivals_text next (drop (i + 1) frames) ≡ whole
 next_answered frames i d history next old new whole within grown went before =
     let frame = get_or frames i d in
     let rest = drop (i + 1) frames in
     ap (λ (text : List ℕ). text ++ arrivals_text next rest) grown
-    ∙ ap (λ (p : History). (old ++ answer_given history (Arrives frame)) ++ arrivals_text p rest) went
-    ∙ append_assoc old (answer_given history (Arrives frame)) (arrivals_text (entries_after history (Arrives frame)) rest)
+    ∙ ap (λ (p : History). (old ++ event_text history (Arrives frame)) ++ arrivals_text p rest) went
+    ∙ append_assoc old (event_text history (Arrives frame)) (arrivals_text (entries_after history (Arrives frame)) rest)
     ∙ ap (λ (left : List (List ℕ)). old ++ arrivals_text history left) (sym (drop_more frames i d within))
     ∙ before
 

@@ -8,7 +8,7 @@ use Rattle.hc_events.specs.Points.{next_serial}
 use Rattle.hc_events.specs.Sendings.{Frame}
 use Rattle.hc_events.specs.Steps.{SendsTasks, proposal, sent_text, task_faults, unless}
 use Rattle.hc_events.proofs.lemmas.Frames.{proposals-numbered}
-use Rattle.hc_program.specs.Answers.{answer_text, frames_text, sent_lines, answer_given}
+use Rattle.hc_program.specs.Answers.{answer_text, frames_text, sent_lines, event_text}
 use Rattle.hc_program.specs.Frames.{proposed_line, proposed_text, sent_line}
 
 lines_as : (history : History) (frames : List Frame) (serial : ℕ) → map (λ frame. frame.serial) frames ≡ range_with_len serial (length frames)
@@ -26,8 +26,8 @@ text_as history [] serial numbered = refl
 text_as history (frame ∷ frames) serial numbered = lines_as history (frame ∷ frames) serial numbered
 
 -- frames that are accepted
-pub proposed_answered : (history : History) (tasks : List ℕ) (frames : List Frame) → frames ≡ proposal history tasks → lowest (task_faults history tasks) ≡ None → answer_given history (SendsTasks tasks) ≡ proposed_text history frames
-unfolding answer_given
+pub proposed_answered : (history : History) (tasks : List ℕ) (frames : List Frame) → frames ≡ proposal history tasks → lowest (task_faults history tasks) ≡ None → event_text history (SendsTasks tasks) ≡ proposed_text history frames
+unfolding event_text
 proposed_answered history tasks frames whole accepted =
     let all = proposal history tasks in
     ap (λ found. answer_text (next_serial history) (unless found (answer.Sent (map (sent_text history) all)))) accepted

@@ -22,7 +22,7 @@ use Rattle.hc_events.specs.Steps.{Step, Arrives, Edits, answer_to, edit_refused,
 use Rattle.hc_records.specs.Edits.{state_after}
 use Rattle.hc_records.specs.Line.{State}
 use Rattle.hc_segment.specs.Machines.{machines_after_edit}
-use Rattle.hc_program.specs.Answers.{answer_text, answer_given}
+use Rattle.hc_program.specs.Answers.{answer_text, event_text}
 use Rattle.hc_program.specs.Standings.{SessionState, session_edited, edited_unless, with_machines, session_with_history}
 
 -- an answer other than `Memory` is the event's
@@ -34,8 +34,8 @@ pub other_fault : (fault : CoreFault) → fault ≢ Memory → answer.Refused fa
 other_fault fault other e = let same : fault ≡ Memory = cc in other same
 
 -- so it is printed, and so the record is left
-pub printed_as : (history next : History) (step : Step) (given : Answer) → MayAnswer history step given next → given ≢ answer.Refused Memory → answer_given history step ≡ answer_text (next_serial history) given
-unfolding answer_given
+pub printed_as : (history next : History) (step : Step) (given : Answer) → MayAnswer history step given next → given ≢ answer.Refused Memory → event_text history step ≡ answer_text (next_serial history) given
+unfolding event_text
 printed_as history next step given may other = sym (ap (answer_text (next_serial history)) (answered history next step given may other).answer)
 
 left_as : (history next : History) (step : Step) (given : Answer) → MayAnswer history step given next → given ≢ answer.Refused Memory → next ≡ entries_after history step

@@ -6,11 +6,11 @@ use Rattle.hc_events.specs.Entries.{History}
 use Rattle.hc_events.specs.Owed.{owed_blocks}
 use Rattle.hc_events.specs.Points.{next_serial}
 use Rattle.hc_events.specs.Steps.{SendsWrite, entries_after, unless_fault, sent_write_answer, unless, with_write, write_faults}
-use Rattle.hc_program.specs.Answers.{answer_text, answer_given}
+use Rattle.hc_program.specs.Answers.{answer_text, event_text}
 use Rattle.hc_program.specs.Refusals.{refusal_text}
 
-pub unwritten_answered : (history : History) (fault : CoreFault) → lowest (write_faults history (owed_blocks history)) ≡ Some fault → answer_given history SendsWrite ≡ refusal_text fault
-unfolding answer_given
+pub unwritten_answered : (history : History) (fault : CoreFault) → lowest (write_faults history (owed_blocks history)) ≡ Some fault → event_text history SendsWrite ≡ refusal_text fault
+unfolding event_text
 unwritten_answered history fault refused =
     ap (λ found. answer_text (next_serial history) (unless found (sent_write_answer (next_serial history) (owed_blocks history)))) refused
 

@@ -83,5 +83,5 @@ answer_text serial answer.Unplugged = []
 answer_text serial (answer.Refused fault) = refusal_text fault
 
 -- what an event prints: the answer to it, its frames having the next serials
-unfoldable pub answer_given : History → Step → List ℕ
-answer_given history step = answer_text (next_serial history) (answer_to history step)
+unfoldable pub event_text : History → Step → List ℕ
+event_text history step = answer_text (next_serial history) (answer_to history step)

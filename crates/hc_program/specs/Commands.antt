@@ -4,7 +4,7 @@ use Rattle.hc_events.specs.Points.{state_of}
 use Rattle.hc_events.specs.Steps.{Arrives, Edits, Reads, SendsTasks, SendsWrite}
 use Rattle.hc_text.specs.declared.commands.Command.{Command}
 use Rattle.hc_text.specs.declared.commands.Command.TheVariants as command
-use Rattle.hc_program.specs.Answers.{answer_given}
+use Rattle.hc_program.specs.Answers.{event_text}
 use Rattle.hc_program.specs.Cycles.{cycle_text, cycled}
 use Rattle.hc_program.specs.Layout.{layout_text}
 use Rattle.hc_program.specs.Memories.{peek_text, poke_text, poked_session_state}
@@ -24,11 +24,11 @@ printed s command.Layout = layout_text (state_of s.history)
 printed s (command.Regs station) = regs_text (state_of s.history) station
 printed s (command.Show task datagram) = show_text s.history task datagram
 printed s (command.Place variable) = place_text (state_of s.history) variable
-printed s (command.Edit edit) = answer_given s.history (Edits edit)
-printed s (command.Send tasks) = answer_given s.history (SendsTasks tasks)
-printed s command.Write = answer_given s.history SendsWrite
-printed s (command.Arrive bytes) = answer_given s.history (Arrives bytes)
-printed s (command.Read task) = answer_given s.history (Reads task)
+printed s (command.Edit edit) = event_text s.history (Edits edit)
+printed s (command.Send tasks) = event_text s.history (SendsTasks tasks)
+printed s command.Write = event_text s.history SendsWrite
+printed s (command.Arrive bytes) = event_text s.history (Arrives bytes)
+printed s (command.Read task) = event_text s.history (Reads task)
 printed s (command.Post posting) = post_text s posting
 printed s command.Take = take_text s
 printed s (command.View task variable) = view_text s.seen task variable

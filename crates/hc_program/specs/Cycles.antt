@@ -5,7 +5,7 @@ use Rattle.hc_events.specs.declared.faults.CoreFault.{CoreFault}
 use Rattle.hc_events.specs.Entries.{History}
 use Rattle.hc_events.specs.Steps.{SendsTasks, Arrives, entries_after, proposal, sent_text, task_faults}
 use Rattle.hc_segment.specs.Line.{frames_through}
-use Rattle.hc_program.specs.Answers.{answer_given}
+use Rattle.hc_program.specs.Answers.{event_text}
 use Rattle.hc_program.specs.Refusals.{refusal_text}
 use Rattle.hc_program.specs.Standings.{SessionState, passed, stepped, session_with_history}
 
@@ -28,7 +28,7 @@ cycle_back s tasks = frames_through s.machines (cycle_frames s.history tasks)
 -- what frames that arrive one after another print
 abbrev pub arrivals_text : History → List (List ℕ) → List ℕ
 arrivals_text history [] = []
-arrivals_text history (frame ∷ frames) = answer_given history (Arrives frame) ++ arrivals_text (entries_after history (Arrives frame)) frames
+arrivals_text history (frame ∷ frames) = event_text history (Arrives frame) ++ arrivals_text (entries_after history (Arrives frame)) frames
 
 -- the record that they leave
 abbrev pub arrived : History → List (List ℕ) → History

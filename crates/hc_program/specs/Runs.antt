@@ -7,7 +7,7 @@ use Rattle.hc_project.specs.Text.{group_in}
 use Rattle.hc_events.specs.Steps.{Edits}
 use Rattle.hc_text.specs.declared.commands.Command.{Command}
 use Rattle.hc_text.specs.Lines.{words_of}
-use Rattle.hc_program.specs.Answers.{answer_given}
+use Rattle.hc_program.specs.Answers.{event_text}
 use Rattle.hc_program.specs.Refusals.{bad_command_text, declare_fault_text}
 use Rattle.hc_text.specs.Commands.{command_in}
 use Rattle.hc_program.specs.Commands.{session_left_by, printed}
@@ -38,7 +38,7 @@ reply_to_words s number (name ∷ arguments) = reply_to_command s number (comman
 -- the document of a declaration, where it has one: its group is declared, as by any edit, or its fault is
 -- reported
 abbrev pub reply_to_document : SessionState → Result Group ProjectFault → Reply
-reply_to_document s (Ok group) = record { text = answer_given s.history (Edits (Declare group)); session_state = session_edited s (Declare group); goes_on = true }
+reply_to_document s (Ok group) = record { text = event_text s.history (Edits (Declare group)); session_state = session_edited s (Declare group); goes_on = true }
 reply_to_document s (Err fault) = record { text = declare_fault_text fault; session_state = s; goes_on = true }
 
 -- the reply to a turn before anything is published: to the words of a line, or to a document; a declaration without one is no command

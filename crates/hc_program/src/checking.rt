@@ -79,12 +79,7 @@ fn check_input<W: Write>(alloc: Global, input: &[u8], output: &mut W) -> RunEnd
         → EndsAsOne (W.contents output.old) (W.contents output.new) result StarvedCheck }
 {
     match say(alloc, input) {
-        Ok(answer_given) => end_with(
-            answer_given.text.as_bytes(),
-            answer_given.status,
-            false,
-            output,
-        ),
+        Ok(checked) => end_with(checked.text.as_bytes(), checked.status, false, output),
         Err(_) => {
             let line = memory_text(Unopened::Project(ProjectFault::Memory));
             end_with(line, UNOPENED, true, output)

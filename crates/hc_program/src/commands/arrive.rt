@@ -3,7 +3,7 @@ ghost use Rattle.std.specs.Prelude.{◌≡◌, ◌≤◌, ◌+◌, ◌*◌, ◌+
 ghost use Rattle.std.specs.List.{flat_map};
 ghost use Rattle.std.specs.String.{string_capacity, string_len};
 ghost use Rattle.hc_events.specs.Steps.{Arrives};
-ghost use Rattle.hc_program.specs.Answers.{outcome_text, pair_text, answer_given};
+ghost use Rattle.hc_program.specs.Answers.{outcome_text, pair_text, event_text};
 ghost use Rattle.hc_program.specs.Standings.{stepped};
 
 use crate::refusals::push_refusal;
@@ -21,14 +21,14 @@ const LONGEST_OUTCOME: usize = 14 + 2 * MOST_DIGITS;
 /// frame, or the fault of a frame that cannot be read. For several writes in one frame, which the program never sends, it
 /// appends nothing. It allocates for the longest lines before the frame is handed in. `AllocError` if an allocation fails; then
 /// nothing has arrived, and `out` may have a prefix of the lines.
-#[tactic(auto, unfolding(crate::specs::Answers::answer_given))]
+#[tactic(auto, unfolding(crate::specs::Answers::event_text))]
 pub fn reply(
     alloc: Global,
     bytes: &[u8],
     session: &mut Session,
     out: &mut String,
 ) -> Result<(), AllocError>
-    ensures text { OnOk result (string_bytes out.new ≡ string_bytes out.old ++ answer_given session.old.history (Arrives bytes.now)) }
+    ensures text { OnOk result (string_bytes out.new ≡ string_bytes out.old ++ event_text session.old.history (Arrives bytes.now)) }
     ensures next { OnOk result (session.new ≡ stepped session.old (Arrives bytes.now)) }
     ensures unchanged { OnErr result (session.new ≡ session.old) }
 {

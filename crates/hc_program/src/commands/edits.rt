@@ -3,7 +3,7 @@ ghost use Rattle.std.specs.Prelude.{◌≡◌, ◌≤◌, ◌+◌, ◌++◌, OnE
 ghost use Rattle.std.specs.String.{string_capacity, string_len};
 ghost use Rattle.hc_events.specs.Steps.{Edits};
 ghost use Rattle.hc_program.specs.Standings.{session_edited};
-ghost use Rattle.hc_program.specs.Answers.{report_text, answer_given};
+ghost use Rattle.hc_program.specs.Answers.{report_text, event_text};
 
 use crate::refusals::say_refusal;
 use crate::session::Session;
@@ -18,14 +18,14 @@ const LONGEST_REPORT: usize = 21 + 3 * MOST_DIGITS;
 /// Carries out an edit and appends the changes, or its fault. The core is then as the edit leaves it, and the machines of its
 /// group were connected or disconnected. It allocates for the line and the machines before the edit is carried out.
 /// `AllocError` if an allocation fails; then nothing was accepted, and `out` may have a prefix of the line.
-#[tactic(auto, unfolding(crate::specs::Answers::answer_given))]
+#[tactic(auto, unfolding(crate::specs::Answers::event_text))]
 pub fn reply(
     alloc: Global,
     edit: &Edit,
     session: &mut Session,
     out: &mut String,
 ) -> Result<(), AllocError>
-    ensures text { OnOk result (string_bytes out.new ≡ string_bytes out.old ++ answer_given session.old.history (Edits edit.now)) }
+    ensures text { OnOk result (string_bytes out.new ≡ string_bytes out.old ++ event_text session.old.history (Edits edit.now)) }
     ensures next { OnOk result (session.new ≡ session_edited session.old edit.now) }
     ensures unchanged { OnErr result (session.new ≡ session.old) }
 {

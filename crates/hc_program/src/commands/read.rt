@@ -1,7 +1,7 @@
 //! The command `read`.
 ghost use Rattle.std.specs.Prelude.{◌≡◌, ◌++◌, OnOk, string_bytes};
 ghost use Rattle.hc_events.specs.Steps.{Reads};
-ghost use Rattle.hc_program.specs.Answers.{data_text, image_text, slot_text, slots_text, answer_given};
+ghost use Rattle.hc_program.specs.Answers.{data_text, image_text, slot_text, slots_text, event_text};
 
 use crate::refusals::push_refusal;
 use hc_core::keeping::Core;
@@ -12,9 +12,9 @@ use std::alloc::{AllocError, Global};
 
 /// Appends the image of a task: the epoch, and each datagram's data or `none`; or the refusal of a task over 7. `AllocError` if
 /// an allocation fails; then `out` may have a prefix of the lines.
-#[tactic(auto, unfolding(crate::specs::Answers::answer_given))]
+#[tactic(auto, unfolding(crate::specs::Answers::event_text))]
 pub fn reply(alloc: Global, task: u8, core: &Core, out: &mut String) -> Result<(), AllocError>
-    ensures { OnOk result (string_bytes out.new ≡ string_bytes out.old ++ answer_given core.now.history (Reads task)) }
+    ensures { OnOk result (string_bytes out.new ≡ string_bytes out.old ++ event_text core.now.history (Reads task)) }
 {
     match core.read(alloc, task)? {
         Answer::Image { epoch, slots } => push_image(epoch, slots.as_slice(), out),

@@ -3,7 +3,7 @@ ghost use Rattle.std.specs.Prelude.{◌≡◌, ◌++◌, All, OnErr, OnOk, strin
 ghost use Rattle.std.specs.List.{flat_map};
 ghost use Rattle.hc_core.specs.Filled.{CanBeFilled};
 ghost use Rattle.hc_events.specs.Steps.{SendsTasks};
-ghost use Rattle.hc_program.specs.Answers.{answer_given};
+ghost use Rattle.hc_program.specs.Answers.{event_text};
 ghost use Rattle.hc_program.specs.Frames.{proposed_line, proposed_text};
 ghost use Rattle.hc_program.specs.Standings.{stepped};
 
@@ -18,14 +18,14 @@ use std::alloc::{AllocError, Global};
 /// Sends tasks and appends their frames, `no frame` if they have no datagram, or the fault if the sending is refused. The
 /// frames are sent when their lines are complete. `AllocError` if an allocation fails; then nothing was sent, and `out` may
 /// have a prefix of the lines.
-#[tactic(auto, unfolding(crate::specs::Answers::answer_given))]
+#[tactic(auto, unfolding(crate::specs::Answers::event_text))]
 pub fn reply(
     alloc: Global,
     tasks: &Together,
     session: &mut Session,
     out: &mut String,
 ) -> Result<(), AllocError>
-    ensures text { OnOk result (string_bytes out.new ≡ string_bytes out.old ++ answer_given session.old.history (SendsTasks tasks.now)) }
+    ensures text { OnOk result (string_bytes out.new ≡ string_bytes out.old ++ event_text session.old.history (SendsTasks tasks.now)) }
     ensures next { OnOk result (session.new ≡ stepped session.old (SendsTasks tasks.now)) }
     ensures unchanged { OnErr result (session.new ≡ session.old) }
 {

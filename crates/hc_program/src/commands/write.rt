@@ -2,7 +2,7 @@
 ghost use Rattle.std.specs.Prelude.{◌≡◌, ◌≤◌, ◌+◌, ◌++◌, length, OnErr, OnOk, string_bytes};
 ghost use Rattle.std.specs.String.{string_capacity, string_len};
 ghost use Rattle.hc_events.specs.Steps.{SendsWrite};
-ghost use Rattle.hc_program.specs.Answers.{answer_given};
+ghost use Rattle.hc_program.specs.Answers.{event_text};
 ghost use Rattle.hc_program.specs.Frames.{sent_line};
 ghost use Rattle.hc_program.specs.Standings.{stepped};
 
@@ -19,9 +19,9 @@ const LONGEST_SENT: usize = 8 + MOST_DIGITS + 2 * WRITE_FRAME;
 
 /// Sends the first owed register block and appends its frame, or the fault. It allocates for the line first. `AllocError` if an
 /// allocation fails; then nothing was sent, and `out` may have a prefix of the line.
-#[tactic(auto, unfolding(crate::specs::Answers::answer_given))]
+#[tactic(auto, unfolding(crate::specs::Answers::event_text))]
 pub fn reply(session: &mut Session, out: &mut String) -> Result<(), AllocError>
-    ensures text { OnOk result (string_bytes out.new ≡ string_bytes out.old ++ answer_given session.old.history SendsWrite) }
+    ensures text { OnOk result (string_bytes out.new ≡ string_bytes out.old ++ event_text session.old.history SendsWrite) }
     ensures next { OnOk result (session.new ≡ stepped session.old SendsWrite) }
     ensures unchanged { OnErr result (session.new ≡ session.old) }
 {

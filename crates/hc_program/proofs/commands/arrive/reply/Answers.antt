@@ -1,7 +1,7 @@
 use Rattle.std.proofs.Common.{arith, rules, ◌≡◌, [], ◌++◌, ◌∙◌, Ok, ap, sym}
 use Rattle.std.specs.Prelude.{codes}
 use Rattle.std.specs.List.{flat_map}
-use Rattle.hc_program.specs.Answers.{outcome_text, answer_given}
+use Rattle.hc_program.specs.Answers.{outcome_text, event_text}
 use Rattle.hc_events.specs.declared.answer.Answer.TheVariants as answer
 use Rattle.hc_events.specs.Steps.{Arrives}
 use Rattle.hc_frames.specs.Arrived.{reading_of}
@@ -41,28 +41,28 @@ returns-clause-text c =
     let room = c.in_ok-reserve.ensures.bytes in
     elim c.match-arrive.branch [
       | in-Answered w ↦
-          let printed : answer_given history event ≡ flat_map outcome_text w.in-Answered.outcomes = printed_as history next event (answer.Answered w.in-Answered.outcomes) w.in-Answered.ensures.answer (λ e. cc) in
+          let printed : event_text history event ≡ flat_map outcome_text w.in-Answered.outcomes = printed_as history next event (answer.Answered w.in-Answered.outcomes) w.in-Answered.ensures.answer (λ e. cc) in
           let added = w.add_outcomes.ensures in
           let out = w.out-is in
           let slice = w.as_slice.ensures in
           search (rules, printed, added, out, room, slice)
       | in-WriteDone w ↦
-          let printed : answer_given history event ≡ codes "write done\n" = printed_as history next event answer.WriteDone w.in-WriteDone.ensures.answer (λ e. cc) in
+          let printed : event_text history event ≡ codes "write done\n" = printed_as history next event answer.WriteDone w.in-WriteDone.ensures.answer (λ e. cc) in
           let added = w.add_text.ensures.bytes in
           let out = w.out-is in
           search (rules, printed, added, out, room)
       | in-WriteMissed w ↦
-          let printed : answer_given history event ≡ codes "write missed\n" = printed_as history next event answer.WriteMissed w.in-WriteMissed.ensures.answer (λ e. cc) in
+          let printed : event_text history event ≡ codes "write missed\n" = printed_as history next event answer.WriteMissed w.in-WriteMissed.ensures.answer (λ e. cc) in
           let added = w.add_text-in-WriteMissed.ensures.bytes in
           let out = w.out-is in
           search (rules, printed, added, out, room)
       | in-Stale w ↦
-          let printed : answer_given history event ≡ codes "stale\n" = printed_as history next event answer.Stale w.in-Stale.ensures.answer (λ e. cc) in
+          let printed : event_text history event ≡ codes "stale\n" = printed_as history next event answer.Stale w.in-Stale.ensures.answer (λ e. cc) in
           let added = w.add_text-in-Stale.ensures.bytes in
           let out = w.out-is in
           search (rules, printed, added, out, room)
       | in-Written w ↦
-          let printed : answer_given history event ≡ [] = printed_as history next event (answer.Written w.in-Written.field-0) w.in-Written.ensures.answer (λ e. cc) in
+          let printed : event_text history event ≡ [] = printed_as history next event (answer.Written w.in-Written.field-0) w.in-Written.ensures.answer (λ e. cc) in
           let out = w.out-is in
           search (rules, printed, out, room)
     ]

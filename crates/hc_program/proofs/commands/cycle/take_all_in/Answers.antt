@@ -1,6 +1,6 @@
 use Rattle.std.proofs.Common.{List, ℕ, ◌++◌, ◌∙◌, ap, string_bytes}
 use Rattle.hc_events.specs.Steps.{Arrives}
-use Rattle.hc_program.specs.Answers.{answer_given}
+use Rattle.hc_program.specs.Answers.{event_text}
 use Rattle.hc_program.specs.Standings.{SessionState, stepped}
 use Rattle.hc_program.proofs.Cycling.{next_left, next_reached, next_answered}
 use Rattle.hc_program.proofs.Grown.{any_err}
@@ -17,7 +17,7 @@ loop-frame-preserved c =
     let next = c.reply.new.session in
     let within = c.loop-frame-test.true in
     let is = c.bytes.ensures.bytes ∙ c.frame-item.is in
-    let grown = c.in_ok-reply.ensures.text ∙ ap (λ (bytes : List ℕ). string_bytes c.loop-frame.out ++ answer_given s.history (Arrives bytes)) is in
+    let grown = c.in_ok-reply.ensures.text ∙ ap (λ (bytes : List ℕ). string_bytes c.loop-frame.out ++ event_text s.history (Arrives bytes)) is in
     let went = c.in_ok-reply.ensures.next ∙ ap (λ (bytes : List ℕ). stepped s (Arrives bytes)) is in
     record {
       text = next_answered frames i c.frame-item.result s.history next.history _ _ _ within grown (ap (λ (t : SessionState). t.history) went) c.loop-frame.invariant.text;

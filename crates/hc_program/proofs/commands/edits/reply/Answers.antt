@@ -5,7 +5,7 @@ use Rattle.hc_segment.specs.Machines.{Replacement, machines_replaced}
 use Rattle.hc_events.specs.declared.answer.Answer.TheVariants as answer
 use Rattle.hc_events.specs.declared.faults.CoreFault.TheVariants.{Memory}
 use Rattle.hc_events.specs.Steps.{Edits}
-use Rattle.hc_program.specs.Answers.{answer_given}
+use Rattle.hc_program.specs.Answers.{event_text}
 use Rattle.hc_program.specs.Refusals.{refusal_text}
 use Rattle.hc_program.specs.Standings.{with_machines}
 use Rattle.hc_program.proofs.Grown.{any_err, answered_when, when_ok}
@@ -21,7 +21,7 @@ returns-in-Refused-clause-text c =
     let history = c.args.session.now.history in
     let edit = c.args.edit.now in
     let fault = c.in-Refused.fault in
-    answered_when c.say_refusal.result (string_bytes c.args.out.now) _ _ (refusal_text fault) (answer_given history (Edits edit)) (fault ≢ Memory) c.in_ok-reserve.ensures.bytes
+    answered_when c.say_refusal.result (string_bytes c.args.out.now) _ _ (refusal_text fault) (event_text history (Edits edit)) (fault ≢ Memory) c.in_ok-reserve.ensures.bytes
     (λ other. printed_as history c.edit.new.self.history (Edits edit) (answer.Refused fault) c.in-Refused.ensures.answer (other_fault fault other)) c.say_refusal.ensures.other c.say_refusal.ensures.text
 
 pub returns-in-Refused-clause-next : goal.returns-in-Refused-clause-next

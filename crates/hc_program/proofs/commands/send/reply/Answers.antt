@@ -2,7 +2,7 @@ use Rattle.std.proofs.Common.{◌≡◌, ℕ, List, ◌++◌, ◌∙◌, None, a
 use Rattle.hc_records.specs.Lists.{lowest}
 use Rattle.hc_events.specs.Entries.{History}
 use Rattle.hc_events.specs.Steps.{SendsTasks, proposal, task_faults}
-use Rattle.hc_program.specs.Answers.{answer_given}
+use Rattle.hc_program.specs.Answers.{event_text}
 use Rattle.hc_program.specs.Frames.{proposed_text}
 use Rattle.hc_program.proofs.Proposed.{proposed_answered}
 use Rattle.hc_program.proofs.commands.send.reply.Goals as goal
@@ -13,7 +13,7 @@ returns-clause-text c =
     let old = string_bytes c.args.out.now in
     let tasks = c.as_slice.result.now in
     let frames = c.deref.result.now in
-    let of = λ (tasks : List ℕ). answer_given history (SendsTasks tasks) in
+    let of = λ (tasks : List ℕ). event_text history (SendsTasks tasks) in
     let whole = c.deref.ensures.value ∙ c.in-Ok.ensures.frames ∙ ap (λ (p : History). proposal p tasks) c.core.ensures in
     let accepted = subst (λ (p : History). lowest (task_faults p tasks) ≡ None) c.core.ensures c.in-Ok.ensures.accepted in
     c.in_ok-push_frames.ensures
