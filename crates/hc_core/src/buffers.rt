@@ -33,7 +33,7 @@ impl Buffers {
         ensures { IfOk result (λ copy. copy ≡ bytes.now) }
     {
         let mut buffer = match self.free.pop() {
-            Some(unchanged) => unchanged,
+            Some(buffer) => buffer,
             None => Vec::new(alloc),
         };
         buffer.clear();

@@ -14,7 +14,7 @@ use hc_sendings::writes::AwaitedBlock;
 
 /// The first owed block at a place or after it, with its place; none where nothing is owed from there on.
 fn next_block(owed: &Owed, plan: &Plan, place: u32) -> Option<PlacedBlock>
-    ensures { (unchanged : KeepsBlocks owed.now plan.now) → GivesNext (owed_from unchanged.known unchanged.state) unchanged.state place result }
+    ensures { (kept : KeepsBlocks owed.now plan.now) → GivesNext (owed_from kept.known kept.state) kept.state place result }
 {
     let found = owed.next_from(plan, place)?;
     Some(PlacedBlock {
@@ -27,7 +27,7 @@ fn next_block(owed: &Owed, plan: &Plan, place: u32) -> Option<PlacedBlock>
 /// and `most` at most. A frame has 74 blocks at most, so deep is this recursion.
 fn choose(frame: &mut WriteFrame, owed: &Owed, plan: &Plan, place: u32, most: usize)
     requires { KeepsBlocks owed.now plan.now }
-    ensures { (unchanged : KeepsBlocks owed.now plan.now) → IsChosenFrom (owed_from unchanged.known unchanged.state) unchanged.state place most frame.old frame.new }
+    ensures { (kept : KeepsBlocks owed.now plan.now) → IsChosenFrom (owed_from kept.known kept.state) kept.state place most frame.old frame.new }
 {
     if most == 0 {
         return;
@@ -47,7 +47,7 @@ fn choose(frame: &mut WriteFrame, owed: &Owed, plan: &Plan, place: u32, most: us
 #[inline(always)]
 fn choose_one(frame: &mut WriteFrame, owed: &Owed, plan: &Plan)
     requires { KeepsBlocks owed.now plan.now }
-    ensures { (unchanged : KeepsBlocks owed.now plan.now) → IsChosenFrom (owed_from unchanged.known unchanged.state) unchanged.state 0 1 frame.old frame.new }
+    ensures { (kept : KeepsBlocks owed.now plan.now) → IsChosenFrom (owed_from kept.known kept.state) kept.state 0 1 frame.old frame.new }
 {
     if let Some(next) = next_block(owed, plan, 0) {
         if frame.has_room(next.block.block.bytes().len() as u16) {
@@ -60,7 +60,7 @@ fn choose_one(frame: &mut WriteFrame, owed: &Owed, plan: &Plan)
 #[inline(always)]
 pub(crate) fn choose_first(frame: &mut WriteFrame, owed: &Owed, plan: &Plan, most: usize)
     requires { KeepsBlocks owed.now plan.now }
-    ensures { (unchanged : KeepsBlocks owed.now plan.now) → IsChosenFrom (owed_from unchanged.known unchanged.state) unchanged.state 0 most frame.old frame.new }
+    ensures { (kept : KeepsBlocks owed.now plan.now) → IsChosenFrom (owed_from kept.known kept.state) kept.state 0 most frame.old frame.new }
 {
     if most == 1 {
         choose_one(frame, owed, plan);
@@ -77,7 +77,7 @@ pub(crate) fn next_further(
     place: u32,
 ) -> Option<PlacedBlock>
     requires { KeepsBlocks owed.now plan.now }
-    ensures { (unchanged : KeepsBlocks owed.now plan.now) → GivesNext (further_from unchanged.known unchanged.state awaited.now) unchanged.state place result }
+    ensures { (kept : KeepsBlocks owed.now plan.now) → GivesNext (further_from kept.known kept.state awaited.now) kept.state place result }
 {
     let mut from = place;
     while let Some(next) = next_block(owed, plan, from) {

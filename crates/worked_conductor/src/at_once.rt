@@ -38,11 +38,11 @@ fn sent_at_once<R: Threads + Sync>(
     gate: &WaitsForNext,
 ) -> Sent {
     let mut arena = [9; 64];
-    let answer_given = match arena.get_mut(..room) {
+    let frames = match arena.get_mut(..room) {
         Some(front) => conductor.send_at_once(rt, alloc, &[0, 1], front, gate),
         None => Err(CoreFault::Room(64)),
     };
-    let count = match answer_given {
+    let count = match frames {
         Ok(frames) => Ok(frames.len()),
         Err(fault) => Err(fault),
     };
@@ -52,13 +52,13 @@ fn sent_at_once<R: Threads + Sync>(
 /// What `send` does, from the axis' opening on.
 fn by_send<R: Wait>(rt: &R, alloc: Global) -> Option<Sent> {
     let (mut conductor, _) = opened(rt, alloc)?;
-    let answer_given = if is_parted(alloc, &mut conductor) {
+    let done = if is_parted(alloc, &mut conductor) {
         Some(sent(alloc, &mut conductor))
     } else {
         None
     };
     conductor.finish(rt);
-    answer_given
+    done
 }
 
 /// What workers do, with a byte too few and then with enough.
@@ -68,14 +68,14 @@ fn by_workers<R: Threads + Wait + Sync>(
     gate: &WaitsForNext,
 ) -> Option<(Sent, Sent)> {
     let (mut conductor, _) = opened(rt, alloc)?;
-    let answer_given = if is_parted(alloc, &mut conductor) {
+    let done = if is_parted(alloc, &mut conductor) {
         let short = sent_at_once(rt, alloc, &mut conductor, 59, gate);
         Some((short, sent_at_once(rt, alloc, &mut conductor, 64, gate)))
     } else {
         None
     };
     conductor.finish(rt);
-    answer_given
+    done
 }
 
 /// Refused, nothing is sent and no byte written. The frame is the one of `send`, and the first worker saw the
@@ -83,11 +83,11 @@ fn by_workers<R: Threads + Wait + Sync>(
 #[test]
 fn workers_write_what_is_sent(rt: HostRuntime) {
     let gate = WaitsForNext::shut();
-    let answer_given = by_workers(&rt, rt.alloc(), &gate);
+    let worked = by_workers(&rt, rt.alloc(), &gate);
     let Some(sent) = by_send(&rt, rt.alloc()) else {
         panic!(rt; "nothing is sent");
     };
     assert!(rt; gate.has_seen() && matches!(sent, (Ok(1), _, 7)));
     let short = (Err(CoreFault::Room(60)), [9; 64], 6);
-    assert_eq!(rt; answer_given, Some((short, sent)));
+    assert_eq!(rt; worked, Some((short, sent)));
 }

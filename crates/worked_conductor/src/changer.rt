@@ -251,8 +251,8 @@ fn first_other<R: Wait>(
     let mut number: usize = 0;
     for row in &ROWS {
         let changed = is_changed(alloc, conductor, slaves, row.0);
-        let (back, answer_given) = shown(rt, alloc, conductor, slaves, seats, inputs);
-        if !changed || answer_given != Some(row.1) {
+        let (back, seen) = shown(rt, alloc, conductor, slaves, seats, inputs);
+        if !changed || seen != Some(row.1) {
             return number;
         }
         seats = back;

@@ -157,8 +157,8 @@ fn first_other<R: Wait>(
     for row in &ROWS {
         let changed = is_changed(alloc, conductor, slaves, row.0);
         let at = number.saturating_add(1);
-        let (back, answer_given) = shown(rt, alloc, conductor, slaves, seats, inputs, at);
-        if !changed || answer_given != Some(row.1) {
+        let (back, seen) = shown(rt, alloc, conductor, slaves, seats, inputs, at);
+        if !changed || seen != Some(row.1) {
             return usize::from(number);
         }
         seats = back;

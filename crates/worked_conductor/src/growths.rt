@@ -47,7 +47,7 @@ const CALLS: [&[Call]; 2] = [
 const MOVED: Moment = Moment {
     epoch: 1,
     data: Some(b"\x34\x0a"),
-    answer_given: &[(9, Err(1)), (1, Err(2)), (2, Ok(2612))],
+    values: &[(9, Err(1)), (1, Err(2)), (2, Ok(2612))],
 };
 
 /// The first owed block is written, and its slave counts it.

@@ -44,7 +44,7 @@ const ROWS: [&[Step]; 5] = [
         See(Moment {
             epoch: 0,
             data: Some(b"\x02\x34\x0a"),
-            answer_given: &[(2, Ok(2612))],
+            values: &[(2, Ok(2612))],
         }),
         Send(
             0,
@@ -67,7 +67,7 @@ const ROWS: [&[Step]; 5] = [
         See(Moment {
             epoch: 4,
             data: None,
-            answer_given: &[(2, Err(4))],
+            values: &[(2, Err(4))],
         }),
     ],
     // a value moves with its variable, and a post for the epoch before is refused
@@ -91,7 +91,7 @@ const ROWS: [&[Step]; 5] = [
         See(Moment {
             epoch: 1,
             data: None,
-            answer_given: &[(2, Err(4))],
+            values: &[(2, Err(4))],
         }),
         Post(Ok(())),
         Take(0, 1),
@@ -108,7 +108,7 @@ const ROWS: [&[Step]; 5] = [
         See(Moment {
             epoch: 1,
             data: None,
-            answer_given: &[],
+            values: &[],
         }),
         Lend(3),
         Post(Ok(())),

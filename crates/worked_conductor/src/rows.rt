@@ -12,38 +12,38 @@ use std::alloc::Global;
 use std::sync::Wait;
 
 /// A variable's number, and its value or the number of a fault.
-pub type AnswerGiven = (u32, Result<u64, u8>);
+pub type ShownValue = (u32, Result<u64, u8>);
 
 /// What a view shows: the epoch, the data of its task's first datagram, and what it says of variables.
 pub struct Moment {
     pub epoch: u32,
     pub data: Option<&'static [u8]>,
-    pub answer_given: &'static [AnswerGiven],
+    pub values: &'static [ShownValue],
 }
 
 /// Before the publishing the answer is not shown.
 pub const OPENED: Moment = Moment {
     epoch: 0,
     data: None,
-    answer_given: &[(9, Err(1)), (1, Err(2)), (2, Err(4))],
+    values: &[(9, Err(1)), (1, Err(2)), (2, Err(4))],
 };
 
 /// The twelve bits from the second byte on are 0xa34.
 pub const ANSWERED: Moment = Moment {
     epoch: 0,
     data: Some(b"\x02\x34\x0a"),
-    answer_given: &[(9, Err(1)), (1, Err(2)), (2, Ok(2612))],
+    values: &[(9, Err(1)), (1, Err(2)), (2, Ok(2612))],
 };
 
 /// Task 1 has no datagram, and the axis' variables are another task's.
 pub const ELSEWHERE: Moment = Moment {
     epoch: 0,
     data: None,
-    answer_given: &[(9, Err(1)), (1, Err(2)), (2, Err(3))],
+    values: &[(9, Err(1)), (1, Err(2)), (2, Err(3))],
 };
 
 /// Whether a view says all of this of variables.
-fn says_all(view: &TaskView, rows: &[AnswerGiven]) -> bool {
+fn says_all(view: &TaskView, rows: &[ShownValue]) -> bool {
     for (number, value) in rows {
         let Some(variable) = VarId::new(*number) else {
             return false;
@@ -76,7 +76,7 @@ pub fn sees(seat: TaskSeat, moment: &Moment) -> (TaskSeat, bool)
         Ok(view) => {
             let seen = view.epoch() == moment.epoch
                 && has(view.inputs(0), moment.data)
-                && says_all(&view, moment.answer_given);
+                && says_all(&view, moment.values);
             (view.leave(), seen)
         }
         Err(seat) => (seat, false),

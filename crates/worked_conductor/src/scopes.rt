@@ -83,7 +83,7 @@ fn takes_two(conductor: &mut Conductor) -> bool
 }
 
 /// The posts of both tasks are taken, an answer comes and is published: two notes of that.
-fn answer_given<R: Wait>(rt: &R, alloc: Global, conductor: &mut Conductor) -> Option<(Note, Note)>
+fn two_notes<R: Wait>(rt: &R, alloc: Global, conductor: &mut Conductor) -> Option<(Note, Note)>
     ensures { IfSome result (λ notes. (note_origin notes.0 ≡ conductor_origin conductor.old) × (note_origin notes.1 ≡ conductor_origin conductor.old)) }
 {
     if !takes_two(conductor) || !is_answered(alloc, conductor) {
@@ -135,7 +135,7 @@ fn two_scopes<R: Threads + Wait>(
         two,
         || -> Option<(Note, Note)>
             ensures { IfSome result (λ notes. (note_origin notes.0 ≡ conductor_origin conductor.entry.now) × (note_origin notes.1 ≡ conductor_origin conductor.entry.now)) }
-        { answer_given(rt, alloc, conductor) },
+        { two_notes(rt, alloc, conductor) },
     );
     let (first, second) = notes?;
     let shown = both_learned(rt, one, two, first, second);

@@ -54,14 +54,14 @@ pub fn is_edited(
     alloc: Global,
     conductor: &mut Conductor,
     edit: &Edit,
-    answer_given: (u32, u32, u32),
+    numbers: (u32, u32, u32),
 ) -> bool {
     match conductor.edit(alloc, edit) {
         Answer::Edited {
             epoch,
             recut,
             moved,
-        } => (epoch, recut, moved) == answer_given,
+        } => (epoch, recut, moved) == numbers,
         _ => false,
     }
 }

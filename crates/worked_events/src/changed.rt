@@ -34,7 +34,7 @@ enum Meaning {
 /// the same; a header of another length doesn't fit the bytes that came, unless its type is another one first; a
 /// command that there is, and an address, are another sending's; the length has a bit for a frame that circulates and
 /// one that promises more.
-fn answer_given(at: usize, value: u8) -> Meaning {
+fn meaning_of(at: usize, value: u8) -> Meaning {
     match at {
         0..=6 | 24 | 25 => Meaning::Inputs,
         7..=10 | 18..=21 => Meaning::Stale,
@@ -79,8 +79,8 @@ fn is_one(answer: &Answer, outcome: Outcome) -> bool {
 }
 
 /// Whether the answer to a frame is that which is reported.
-fn is_answered_so(answer: &Answer, answer_given: Meaning) -> bool {
-    match answer_given {
+fn is_answered_so(answer: &Answer, meaning: Meaning) -> bool {
+    match meaning {
         Meaning::Refused(fault) => matches!(answer, Answer::Refused(found) if *found == fault),
         Meaning::Stale => matches!(answer, Answer::Stale),
         Meaning::Inputs => is_wanted(answer, &ANSWERED),
@@ -118,9 +118,9 @@ fn is_answered(
     driven: &mut Driven,
     alloc: Global,
     frame: &[u8],
-    answer_given: Meaning,
+    meaning: Meaning,
 ) -> Result<bool, AllocError> {
-    Ok(is_answered_so(&driven.put(alloc, Event::Arrive(frame))?, answer_given))
+    Ok(is_answered_so(&driven.put(alloc, Event::Arrive(frame))?, meaning))
 }
 
 /// Whether nothing is read, nothing is owed, and the next serial is 5.
@@ -133,9 +133,9 @@ fn is_left_out(
     driven: &mut Driven,
     alloc: Global,
     frame: &[u8],
-    answer_given: Meaning,
+    meaning: Meaning,
 ) -> Result<bool, AllocError> {
-    Ok(is_answered(driven, alloc, frame, answer_given)? && awaits_still(driven, alloc)?)
+    Ok(is_answered(driven, alloc, frame, meaning)? && awaits_still(driven, alloc)?)
 }
 
 /// The answer to a serial, with another value of a byte. The serial's bytes are 10 and 11, the index is 17.
@@ -182,25 +182,20 @@ fn is_taken(
     driven: &mut Driven,
     alloc: Global,
     frame: &[u8],
-    answer_given: Meaning,
+    meaning: Meaning,
 ) -> Result<bool, AllocError> {
-    let data = match answer_given {
+    let data = match meaning {
         Meaning::Inputs => frame.get(26..29),
         _ => None,
     };
-    Ok(is_answered(driven, alloc, frame, answer_given)? && reads(driven, alloc, data)?)
+    Ok(is_answered(driven, alloc, frame, meaning)? && reads(driven, alloc, data)?)
 }
 
 /// Whether the answer with another value of a byte is answered as given, and leaves what it should: one that
 /// answers nothing with the serial 4, one that answers with a serial and an epoch of its own.
 fn holds_of(driven: &mut Driven, alloc: Global, at: usize, value: u8) -> Result<bool, AllocError> {
     if !leaves_an_answer(at) {
-        return is_left_out(
-            driven,
-            alloc,
-            &changed(4, at, value),
-            answer_given(at, value),
-        );
+        return is_left_out(driven, alloc, &changed(4, at, value), meaning_of(at, value));
     }
     let serial = driven.core.next_serial();
     Ok(
@@ -209,7 +204,7 @@ fn holds_of(driven: &mut Driven, alloc: Global, at: usize, value: u8) -> Result<
                 driven,
                 alloc,
                 &changed(serial, at, value),
-                answer_given(at, value),
+                meaning_of(at, value),
             )?,
     )
 }
@@ -227,12 +222,12 @@ fn held(driven: &mut Driven, alloc: Global, at: usize, old: u8) -> Result<u32, A
 
 /// Whether the unchanged frame is the answer, or came too late, since an epoch began.
 fn ends_well(driven: &mut Driven, alloc: Global, at: usize) -> Result<bool, AllocError> {
-    let answer_given = if leaves_an_answer(at) {
+    let meaning = if leaves_an_answer(at) {
         Meaning::Stale
     } else {
         Meaning::Inputs
     };
-    is_answered(driven, alloc, ARRIVAL, answer_given)
+    is_answered(driven, alloc, ARRIVAL, meaning)
 }
 
 /// How many of a byte's other values hold on a line that awaits the answer; none where it doesn't, or the unchanged
@@ -293,8 +288,8 @@ fn cut(size: usize) -> &'static [u8] {
 /// Whether each cut of the awaited answer is refused and leaves all as it was, and the whole one is answered.
 fn cuts_hold(driven: &mut Driven, alloc: Global) -> Result<bool, AllocError> {
     for size in 0..SIZE {
-        let answer_given = Meaning::Refused(cut_fault(size));
-        if !is_left_out(driven, alloc, cut(size), answer_given)? {
+        let meaning = Meaning::Refused(cut_fault(size));
+        if !is_left_out(driven, alloc, cut(size), meaning)? {
             return Ok(false);
         }
     }
@@ -323,8 +318,8 @@ fn every_cut_answer(rt: HostRuntime) -> Result<(), Fail> {
 /// Whether each cut of the answer is refused.
 fn refuses_cuts(driven: &mut Driven, alloc: Global) -> Result<bool, AllocError> {
     for size in 0..SIZE {
-        let answer_given = Meaning::Refused(cut_fault(size));
-        if !is_answered(driven, alloc, cut(size), answer_given)? {
+        let meaning = Meaning::Refused(cut_fault(size));
+        if !is_answered(driven, alloc, cut(size), meaning)? {
             return Ok(false);
         }
     }
@@ -334,10 +329,10 @@ fn refuses_cuts(driven: &mut Driven, alloc: Global) -> Result<bool, AllocError> 
 /// Whether each answer with another value of a byte is refused that can't be read.
 fn refuses_at(driven: &mut Driven, alloc: Global, at: usize) -> Result<bool, AllocError> {
     for value in 0..=255_u8 {
-        let answer_given = answer_given(at, value);
+        let meaning = meaning_of(at, value);
         let frame = changed(4, at, value);
-        if matches!(answer_given, Meaning::Refused(_)) && frame.as_slice() != ARRIVAL {
-            if !is_answered(driven, alloc, &frame, answer_given)? {
+        if matches!(meaning, Meaning::Refused(_)) && frame.as_slice() != ARRIVAL {
+            if !is_answered(driven, alloc, &frame, meaning)? {
                 return Ok(false);
             }
         }

@@ -54,7 +54,7 @@ fn field_answered(datagram: usize, at: usize, data: usize, value: u8) -> Meaning
 /// The meaning of a changed byte of the frame: destination and the source's first byte are anyone's; the last of the source's
 /// other bytes is also each datagram's index; then come EtherType, length and type. A length of 28 or 48 ends with the first or
 /// the second datagram, which promises that another follows.
-fn answer_given(at: usize, value: u8) -> Meaning {
+fn meaning_of(at: usize, value: u8) -> Meaning {
     match at {
         0..=6 => Meaning::AllDone,
         7..=10 => Meaning::Stale,
@@ -88,8 +88,8 @@ fn with_missed(number: usize) -> [Outcome; 3] {
 }
 
 /// Whether the answer to a frame is that which is reported.
-fn is_answered_so(answer: &Answer, answer_given: Meaning) -> bool {
-    match answer_given {
+fn is_answered_so(answer: &Answer, meaning: Meaning) -> bool {
+    match meaning {
         Meaning::Refused(fault) => matches!(answer, Answer::Refused(found) if *found == fault),
         Meaning::LeftOut => matches!(answer, Answer::Refused(_) | Answer::Stale),
         Meaning::Stale => matches!(answer, Answer::Stale),
@@ -99,8 +99,8 @@ fn is_answered_so(answer: &Answer, answer_given: Meaning) -> bool {
 }
 
 /// How many blocks are owed after it.
-fn owed_after(answer_given: Meaning) -> u32 {
-    match answer_given {
+fn owed_after(meaning: Meaning) -> u32 {
+    match meaning {
         Meaning::AllDone => 0,
         Meaning::OneMissed(_) => 1,
         _ => 3,
@@ -108,8 +108,8 @@ fn owed_after(answer_given: Meaning) -> u32 {
 }
 
 /// Whether an answer ends what is awaited.
-fn is_answer(answer_given: Meaning) -> bool {
-    matches!(answer_given, Meaning::AllDone | Meaning::OneMissed(_))
+fn is_answer(meaning: Meaning) -> bool {
+    matches!(meaning, Meaning::AllDone | Meaning::OneMissed(_))
 }
 
 /// The axis is forgotten, its first block is written and answered, and the other three are sent in a frame with the serial
@@ -146,8 +146,8 @@ fn holds_of(
 ) -> Result<bool, AllocError> {
     let frame = changed(alloc, serial, at, value)?;
     let answer = driven.put(alloc, Event::Arrive(frame.as_slice()))?;
-    let answer_given = answer_given(at, value);
-    Ok(is_answered_so(&answer, answer_given) && driven.core.owed() == owed_after(answer_given))
+    let meaning = meaning_of(at, value);
+    Ok(is_answered_so(&answer, meaning) && driven.core.owed() == owed_after(meaning))
 }
 
 /// The serial of a frame that waits for its answer: the one that was sent, unless it was answered; then another is sent.
@@ -174,7 +174,7 @@ fn held(driven: &mut Driven, alloc: Global, at: usize, old: u8) -> Result<u32, A
             if holds_of(driven, alloc, serial, at, value)? {
                 held = held.saturating_add(1);
             }
-            sent = if is_answer(answer_given(at, value)) {
+            sent = if is_answer(meaning_of(at, value)) {
                 None
             } else {
                 Some(serial)

@@ -100,7 +100,7 @@ impl Driven {
     pub fn prepared(&mut self, alloc: Global, edit: &Edit) -> Result<Option<Answer>, AllocError> {
         let left = left_by(&self.core);
         let answer = match answered_before(&mut self.core, alloc, edit) {
-            Ok(answer_given) => answer_given,
+            Ok(answer) => answer,
             Err(EditFault::Memory) => return Err(AllocError),
             Err(fault) => Some(Answer::Refused(CoreFault::from(fault))),
         };

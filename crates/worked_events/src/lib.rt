@@ -3,8 +3,6 @@
 #![tactic(auto)]
 
 #[cfg(test)]
-mod answer_given;
-#[cfg(test)]
 mod answers;
 #[cfg(test)]
 mod asked;
@@ -42,6 +40,8 @@ mod stages;
 mod texts;
 #[cfg(test)]
 mod undisturbed;
+#[cfg(test)]
+mod updates;
 #[cfg(test)]
 mod values;
 #[cfg(test)]

@@ -189,8 +189,8 @@ pub fn write_one(driven: &mut Driven, alloc: Global) -> Result<bool, AllocError>
     };
     let mut frame = text.into_vec();
     answer_write(frame.as_mut_slice());
-    let answer_given = driven.put(alloc, Event::Arrive(frame.as_slice()))?;
-    Ok(matches!(answer_given, Answer::WriteDone))
+    let answer = driven.put(alloc, Event::Arrive(frame.as_slice()))?;
+    Ok(matches!(answer, Answer::WriteDone))
 }
 
 /// Writes the owed blocks one after another, each answered, and says how many there were. Twice as many blocks

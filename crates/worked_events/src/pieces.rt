@@ -261,17 +261,10 @@ const FIRST_WRITE: Text = (
 /// their front, or all are as they were; after the frame they are.
 fn written(core: &mut Core, out: &mut [u8]) -> (Result<usize, CoreFault>, bool) {
     out.fill(0xaa);
-    let answer_given = core.write_into(out);
-    let (front, after_it) = out.split_at(if answer_given.is_ok() {
-        60.min(out.len())
-    } else {
-        0
-    });
-    let holds = answer_given.is_err() || is_text(front, &FIRST_WRITE);
-    (
-        answer_given,
-        holds && after_it.iter().all(|byte| *byte == 0xaa),
-    )
+    let answer = core.write_into(out);
+    let (front, after_it) = out.split_at(if answer.is_ok() { 60.min(out.len()) } else { 0 });
+    let holds = answer.is_err() || is_text(front, &FIRST_WRITE);
+    (answer, holds && after_it.iter().all(|byte| *byte == 0xaa))
 }
 
 /// Two writes, the first into too few bytes; then the number of owed blocks and the next serial.
@@ -288,25 +281,22 @@ fn written_at_opening(alloc: Global) -> Result<Written, Fail> {
 /// A frame has 60 bytes at least. Refused for room a write uses no serial. What was sent is owed until it is answered.
 #[test]
 fn a_block_is_written_into_a_slice(rt: HostRuntime) -> Result<(), Fail> {
-    let answer_given = [(Err(CoreFault::Room(60)), true), (Ok(60), true)];
-    assert_eq!(rt; written_at_opening(rt.alloc())?, (answer_given, 4, 1));
+    let wanted = [(Err(CoreFault::Room(60)), true), (Ok(60), true)];
+    assert_eq!(rt; written_at_opening(rt.alloc())?, (wanted, 4, 1));
     Ok(())
 }
 
 /// The frame that writes all blocks, in a slice, and whether it is as it should be.
 fn all_written(core: &mut Core, out: &mut [u8]) -> (Result<SentWrites, CoreFault>, bool) {
     out.fill(0xaa);
-    let answer_given = core.write_all_into(out);
-    let size = match answer_given {
+    let answer = core.write_all_into(out);
+    let size = match answer {
         Ok(sent) => sent.size,
         Err(_) => 0,
     };
     let (front, after_it) = out.split_at(size.min(out.len()));
-    let holds = answer_given.is_err() || is_text(front, &FOUR);
-    (
-        answer_given,
-        holds && after_it.iter().all(|byte| *byte == 0xaa),
-    )
+    let holds = answer.is_err() || is_text(front, &FOUR);
+    (answer, holds && after_it.iter().all(|byte| *byte == 0xaa))
 }
 
 /// Two frames of writes, the first into too few bytes; then the number of owed blocks and the next serial.
@@ -327,8 +317,8 @@ fn all_blocks_are_written_into_a_slice(rt: HostRuntime) -> Result<(), Fail> {
         size: 112,
         blocks: 4,
     };
-    let answer_given = [(Err(CoreFault::Room(112)), true), (Ok(sent), true)];
-    assert_eq!(rt; all_written_at_opening(rt.alloc())?, (answer_given, 4, 1));
+    let wanted = [(Err(CoreFault::Room(112)), true), (Ok(sent), true)];
+    assert_eq!(rt; all_written_at_opening(rt.alloc())?, (wanted, 4, 1));
     Ok(())
 }
 
@@ -374,12 +364,12 @@ fn are_wanted(answers: &[Answer], wanted: &[Wanted]) -> bool {
 
 /// Whether the first of four blocks is written, and no task is sent meanwhile.
 fn runs_a_write(alloc: Global, core: &mut Core) -> Result<bool, AllocError> {
-    let answer_given = answers(alloc, core, Event::SendWrite, Event::SendTasks(&[0]))?;
+    let both = answers(alloc, core, Event::SendWrite, Event::SendTasks(&[0]))?;
     let wanted = [
         Wanted::WriteSent(FIRST_WRITE),
         Wanted::Refused(CoreFault::Unprogrammed(4)),
     ];
-    Ok(are_wanted(&answer_given, &wanted))
+    Ok(are_wanted(&both, &wanted))
 }
 
 /// Whether its answer is taken, and a post.
@@ -390,8 +380,8 @@ fn runs_an_arrival(alloc: Global, core: &mut Core) -> Result<bool, AllocError> {
         epoch: 0,
         bytes: &[2],
     };
-    let answer_given = answers(alloc, core, Event::Arrive(came.as_slice()), post)?;
-    Ok(are_wanted(&answer_given, &[Wanted::WriteDone, Wanted::Posted]))
+    let both = answers(alloc, core, Event::Arrive(came.as_slice()), post)?;
+    Ok(are_wanted(&both, &[Wanted::WriteDone, Wanted::Posted]))
 }
 
 /// Whether the outputs move to task 1, and nothing is read of the inputs.
@@ -401,9 +391,9 @@ fn runs_an_edit(alloc: Global, core: &mut Core) -> Result<bool, AllocError> {
         area: 0,
         task: 1,
     };
-    let answer_given = answers(alloc, core, Event::Edit(&edit), Event::Read(0))?;
+    let both = answers(alloc, core, Event::Edit(&edit), Event::Read(0))?;
     let wanted = [Wanted::Edited(1, 2, 2), Wanted::Image(1, &[None])];
-    Ok(are_wanted(&answer_given, &wanted))
+    Ok(are_wanted(&both, &wanted))
 }
 
 /// Whether a core is left as one that was asked them one by one: three blocks are owed, one serial is used, the

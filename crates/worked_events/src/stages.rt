@@ -1,8 +1,8 @@
 //! What a line is put through, one stage after another.
-use crate::answer_given::{Update, are_answered};
 use crate::asked::{Row, first_unprepared, first_wrong};
 use crate::driven::Driven;
 use crate::lines::{opened, write_all};
+use crate::updates::{Update, are_answered};
 use hc_events::answer::Answer;
 use hc_events::event::Event;
 use std::alloc::{AllocError, Global};
@@ -20,7 +20,7 @@ pub enum Stage {
     /// Each row's edit is prepared, and reported as the row wants; none is carried out.
     Prepared(&'static [Row]),
     /// The changes since they were taken last say just this.
-    AnswerGiven(&'static [Update]),
+    Changes(&'static [Update]),
 }
 
 /// The number of a stage and of a row in it, from 0.
@@ -53,7 +53,7 @@ pub fn first_wrong_row(
         Stage::Sends(times) => send_times(driven, alloc, times)?,
         Stage::Rows(rows) => return first_wrong(driven, alloc, rows),
         Stage::Prepared(rows) => return first_unprepared(driven, alloc, rows),
-        Stage::AnswerGiven(updates) => are_answered(&driven.core.take_changes(alloc), updates),
+        Stage::Changes(updates) => are_answered(&driven.core.take_changes(alloc), updates),
     };
     Ok(if holds { None } else { Some(0) })
 }

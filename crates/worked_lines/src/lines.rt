@@ -291,10 +291,10 @@ const ANSWERS: [Answer; 7] = [
 /// Whether an answer is that which it is to be.
 fn is_answer(answer: &Result<Report, EditFault>, wanted: &Answer) -> bool {
     match (answer, wanted) {
-        (Ok(report), Ok(answer_given)) => {
+        (Ok(report), Ok(reported)) => {
             (report.epoch, report.recut, report.swap.places())
-                == (answer_given.0, answer_given.1, answer_given.2)
-                && report.blocks.as_slice() == answer_given.3
+                == (reported.0, reported.1, reported.2)
+                && report.blocks.as_slice() == reported.3
         }
         (Err(fault), Err(other)) => fault == other,
         _ => false,

@@ -53,9 +53,9 @@ fn is_done(
     edit: &Edit,
     prepared: &PreparedEdit,
 ) -> Result<bool, Fail> {
-    let answer_given = format!(in alloc; "{:?}", prepared.report())?;
+    let foretold = format!(in alloc; "{:?}", prepared.report())?;
     let report = plan.apply(alloc, edit)?;
-    Ok(format!(in alloc; "{report:?}")? == answer_given && has_blocks(plan, prepared.blocks()))
+    Ok(format!(in alloc; "{report:?}")? == foretold && has_blocks(plan, prepared.blocks()))
 }
 
 /// Whether an edit by which these slaves leave is prepared, which leaves the plan with all that it keeps, and is

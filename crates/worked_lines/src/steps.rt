@@ -12,10 +12,10 @@ use std::test::Fail;
 
 /// The epoch, how many spans are recut and variables get another place, and the blocks that move, by station address
 /// and number.
-pub type AnswerGiven = (u32, u32, u32, &'static [(u16, u8)]);
+pub type Reported = (u32, u32, u32, &'static [(u16, u8)]);
 
 /// What an edit is answered.
-pub type Answer = Result<AnswerGiven, EditFault>;
+pub type Answer = Result<Reported, EditFault>;
 
 /// A datagram: its address, length, expected counter and offset.
 pub type Wanted = (u32, u16, u16, u16);
@@ -73,16 +73,15 @@ fn is_same_table(one: &Places, other: &Places) -> bool {
 fn says(
     alloc: Global,
     report: &Report,
-    answer_given: &AnswerGiven,
+    reported: &Reported,
     table: &mut Places,
     new: &Places,
 ) -> Result<bool, AllocError> {
     table.swap(alloc, &report.swap)?;
     Ok(
-        (report.epoch, report.recut, report.swap.places())
-            == (answer_given.0, answer_given.1, answer_given.2)
-            && report.moved as usize == answer_given.3.len()
-            && report.blocks.as_slice() == answer_given.3
+        (report.epoch, report.recut, report.swap.places()) == (reported.0, reported.1, reported.2)
+            && report.moved as usize == reported.3.len()
+            && report.blocks.as_slice() == reported.3
             && is_same_table(table, new),
     )
 }
@@ -111,10 +110,10 @@ fn is_answered(plan: &mut Plan, alloc: Global, edit: &Edit, answer: &Answer) -> 
     let mut table = plan.places().copied(alloc)?;
     match (applied(plan, alloc, edit, &table), answer) {
         (Err(EditFault::Memory), _) => Err(Fail::from(EditFault::Memory)),
-        (Ok(report), Ok(answer_given)) => Ok(says(
+        (Ok(report), Ok(reported)) => Ok(says(
             alloc,
             &report,
-            answer_given,
+            reported,
             &mut table,
             plan.places(),
         )?),

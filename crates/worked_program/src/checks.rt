@@ -63,7 +63,7 @@ phys = 0x1180 -> phys = 0x1101 => 3 project fault 7 OverlappingAreas; at slave[0
 index = 0x1601 -> index = 0x1600 => 3 project fault 9 UnknownPdo; at slave[0].area[0].pdo[1].index station 1001 first slave[0].area[0].pdo[0].index station 1001"#;
 
 /// What is printed of the line with a change, on one line after the exit status.
-fn answer_given(alloc: Global, change: &str) -> Result<String, Fail> {
+fn printed_line(alloc: Global, change: &str) -> Result<String, Fail> {
     let (from, to) = change.split_once(" -> ").ok_or("no change")?;
     let (front, back) = LINE.split_once(from).ok_or("no such piece")?;
     let text = format!(in alloc; "{front}{to}{back}")?;
@@ -79,7 +79,7 @@ fn answer_given(alloc: Global, change: &str) -> Result<String, Fail> {
 fn mistold<'a>(alloc: Global, cases: &'a str) -> Result<Option<&'a str>, Fail> {
     for case in cases.lines() {
         let (change, wanted) = case.split_once(" => ").ok_or("nothing wanted")?;
-        if answer_given(alloc, change)?.as_str() != wanted {
+        if printed_line(alloc, change)?.as_str() != wanted {
             return Ok(Some(case));
         }
     }

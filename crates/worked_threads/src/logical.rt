@@ -15,7 +15,7 @@ struct Row {
     came: [u8; 2],
     left: [u8; 2],
     counter: u8,
-    unchanged: [(u16, u8); 2],
+    after: [(u16, u8); 2],
 }
 
 const NONE: [u8; 16] = [0; 16];
@@ -28,7 +28,7 @@ const ROWS: [Row; 20] = [
         came: [0x33, 0x44],
         left: [0x33, 0x44],
         counter: 0,
-        unchanged: [(0x1000, 0x11), (0x1001, 0x22)],
+        after: [(0x1000, 0x11), (0x1001, 0x22)],
     },
     // four bits are read over a byte's edge: 1101, low bit first
     Row {
@@ -37,7 +37,7 @@ const ROWS: [Row; 20] = [
         came: [0x00, 0xff],
         left: [0xc0, 0xfe],
         counter: 1,
-        unchanged: [(0x1000, 0xfb), (0x1001, 0)],
+        after: [(0x1000, 0xfb), (0x1001, 0)],
     },
     // four bits are written over a byte's edge, from memory bit 5 on
     Row {
@@ -47,7 +47,7 @@ const ROWS: [Row; 20] = [
         left: [0xc0, 0x02],
         counter: 2,
         // bits 1, 1, 0, 1 at bits 5, 6, 7 and 8, where 0, 0, 1, 0 was
-        unchanged: [(0x1000, 0x60), (0x1001, 0xff)],
+        after: [(0x1000, 0x60), (0x1001, 0xff)],
     },
     // a start bit over the stop bit in one byte: no pair
     Row {
@@ -56,7 +56,7 @@ const ROWS: [Row; 20] = [
         came: [0, 0],
         left: [0, 0],
         counter: 0,
-        unchanged: [(0x1000, 0xff), (0x1001, 0xff)],
+        after: [(0x1000, 0xff), (0x1001, 0xff)],
     },
     // a start bit over the stop bit, a byte further: four pairs
     Row {
@@ -65,7 +65,7 @@ const ROWS: [Row; 20] = [
         came: [0, 0],
         left: [0xe0, 0x01],
         counter: 1,
-        unchanged: [(0x1000, 0xff), (0x1001, 0)],
+        after: [(0x1000, 0xff), (0x1001, 0)],
     },
     // length 0: no pair
     Row {
@@ -77,7 +77,7 @@ const ROWS: [Row; 20] = [
         came: [0, 0],
         left: [0, 0],
         counter: 0,
-        unchanged: [(0x1000, 0xff), (0x1001, 0xff)],
+        after: [(0x1000, 0xff), (0x1001, 0xff)],
     },
     // of the bit fields the low three bits count, of the type the low two, of the activation the lowest
     Row {
@@ -91,7 +91,7 @@ const ROWS: [Row; 20] = [
         came: [0, 0],
         left: [0x5a, 0],
         counter: 1,
-        unchanged: [(0x1000, 0x5a), (0x1001, 0)],
+        after: [(0x1000, 0x5a), (0x1001, 0)],
     },
     // where two read FMMUs meet the lower number decides
     Row {
@@ -103,7 +103,7 @@ const ROWS: [Row; 20] = [
         came: [0, 0],
         left: [0xf5, 0],
         counter: 1,
-        unchanged: [(0x1000, 0x05), (0x1001, 0xf0)],
+        after: [(0x1000, 0x05), (0x1001, 0xf0)],
     },
     // where two write FMMUs meet the lower number decides
     Row {
@@ -115,7 +115,7 @@ const ROWS: [Row; 20] = [
         came: [0x12, 0x34],
         left: [0x12, 0x34],
         counter: 2,
-        unchanged: [(0x1000, 0x14), (0x1001, 0)],
+        after: [(0x1000, 0x14), (0x1001, 0)],
     },
     // a lower read FMMU whose pair lies past memory doesn't decide
     Row {
@@ -127,7 +127,7 @@ const ROWS: [Row; 20] = [
         came: [0, 0],
         left: [0x77, 0x88],
         counter: 1,
-        unchanged: [(0x2fff, 0x77), (0x1000, 0x88)],
+        after: [(0x2fff, 0x77), (0x1000, 0x88)],
     },
     // type 3: what was there is read, and what came in is written
     Row {
@@ -136,7 +136,7 @@ const ROWS: [Row; 20] = [
         came: [0x55, 0x66],
         left: [0xaa, 0xbb],
         counter: 3,
-        unchanged: [(0x1000, 0x55), (0x1001, 0x66)],
+        after: [(0x1000, 0x55), (0x1001, 0x66)],
     },
     // two FMMUs of each direction count once
     Row {
@@ -148,7 +148,7 @@ const ROWS: [Row; 20] = [
         came: [3, 4],
         left: [1, 2],
         counter: 3,
-        unchanged: [(0x1000, 3), (0x1001, 4)],
+        after: [(0x1000, 3), (0x1001, 4)],
     },
     // a read FMMU over memory that another writes: both act on what was there
     Row {
@@ -160,7 +160,7 @@ const ROWS: [Row; 20] = [
         came: [0x12, 0x34],
         left: [0x12, 0x99],
         counter: 3,
-        unchanged: [(0x1000, 0x12), (0x1001, 0)],
+        after: [(0x1000, 0x12), (0x1001, 0)],
     },
     // pairs past memory don't count
     Row {
@@ -169,7 +169,7 @@ const ROWS: [Row; 20] = [
         came: [0x12, 0x34],
         left: [0x12, 0x34],
         counter: 2,
-        unchanged: [(0x2fff, 0x12), (0x0000, 0)],
+        after: [(0x2fff, 0x12), (0x0000, 0)],
     },
     // all pairs lie past memory
     Row {
@@ -181,7 +181,7 @@ const ROWS: [Row; 20] = [
         came: [0x12, 0x34],
         left: [0x12, 0x34],
         counter: 0,
-        unchanged: [(0x2fff, 0), (0x0000, 0)],
+        after: [(0x2fff, 0), (0x0000, 0)],
     },
     // another datagram's FMMUs, the byte before and the byte after
     Row {
@@ -193,7 +193,7 @@ const ROWS: [Row; 20] = [
         came: [3, 4],
         left: [3, 4],
         counter: 0,
-        unchanged: [(0x1000, 1), (0x1001, 2)],
+        after: [(0x1000, 1), (0x1001, 2)],
     },
     // an FMMU that begins before the datagram and ends in it
     Row {
@@ -205,7 +205,7 @@ const ROWS: [Row; 20] = [
         came: [0xf1, 0xff],
         left: [0xfe, 0xff],
         counter: 1,
-        unchanged: [(0x1000, 0), (0x1001, 0x7e)],
+        after: [(0x1000, 0), (0x1001, 0x7e)],
     },
     // the alias is 100, in 0x0012 and 0x0013: both stay, the bytes beside them don't, and the writes count; here the byte
     // before it, and its low byte
@@ -215,7 +215,7 @@ const ROWS: [Row; 20] = [
         came: [0x12, 0x34],
         left: [0x12, 0x34],
         counter: 2,
-        unchanged: [(0x0011, 0x12), (0x0012, 100)],
+        after: [(0x0011, 0x12), (0x0012, 100)],
     },
     // its high byte, and the byte after it
     Row {
@@ -224,7 +224,7 @@ const ROWS: [Row; 20] = [
         came: [0x12, 0x34],
         left: [0x12, 0x34],
         counter: 2,
-        unchanged: [(0x0013, 0), (0x0014, 0x34)],
+        after: [(0x0013, 0), (0x0014, 0x34)],
     },
     // it alone: the write counts all the same
     Row {
@@ -233,7 +233,7 @@ const ROWS: [Row; 20] = [
         came: [0x12, 0x34],
         left: [0x12, 0x34],
         counter: 2,
-        unchanged: [(0x0012, 100), (0x0013, 0)],
+        after: [(0x0012, 100), (0x0013, 0)],
     },
 ];
 
@@ -250,11 +250,11 @@ fn first_wrong_row(alloc: Global, rows: &[Row]) -> Result<Option<usize>, AllocEr
         machine.process(&mut frame);
         let [low, high] = row.left;
         let is_left = is_placed(&frame, 26, &[low, high, row.counter, 0]);
-        let [first, second] = row.unchanged;
+        let [first, second] = row.after;
         let memory = machine.memory();
-        let are_unchanged = is_placed(memory, usize::from(first.0), &[first.1])
+        let are_after = is_placed(memory, usize::from(first.0), &[first.1])
             && is_placed(memory, usize::from(second.0), &[second.1]);
-        if !(are_blocks && are_put && is_left && are_unchanged) {
+        if !(are_blocks && are_put && is_left && are_after) {
             return Ok(Some(number));
         }
     }

@@ -53,7 +53,7 @@ fn learned(mut seat: Seat, note: Note) -> (Seat, u32)
 }
 
 /// Three edits, each published before the next, and two notes of the last publishing.
-fn answer_given<R: Wait>(
+fn two_notes<R: Wait>(
     rt: &R,
     alloc: Global,
     plan: &mut Plan,
@@ -144,7 +144,7 @@ fn two_scopes<R: Threads + Wait>(
         || -> Option<(Note, Note)>
             requires { LeadsTo publisher.now plan.now }
             ensures { IfSome result (λ notes. (note_origin notes.0 ≡ origin_of publisher.entry.now) × (note_origin notes.1 ≡ origin_of publisher.entry.now)) }
-        { answer_given(rt, alloc, plan, publisher) },
+        { two_notes(rt, alloc, plan, publisher) },
     );
     let (first, second) = notes?;
     let shown = both_learned(rt, one, two, first, second);

@@ -16,7 +16,7 @@ use std::test::Fail;
 
 /// A variable's number, and what task 0 gets for it: its first bit, if it has a place, and its value or the number
 /// of a fault.
-type AnswerGiven = (u32, Option<u16>, Result<u64, u8>);
+type ShownValue = (u32, Option<u16>, Result<u64, u8>);
 
 /// What a view shows: the epoch, the bytes of the task's outputs and of its inputs, the data of its datagram, and what
 /// it says of variables.
@@ -24,7 +24,7 @@ struct Moment {
     epoch: u32,
     part: (u16, u16),
     data: Option<&'static [u8]>,
-    answer_given: &'static [AnswerGiven],
+    values: &'static [ShownValue],
 }
 
 /// The axis has a byte of outputs and two of inputs. Variable 9 is none, and variable 3 is of the feeder, which isn't
@@ -33,7 +33,7 @@ const OPENED: Moment = Moment {
     epoch: 0,
     part: (1, 2),
     data: None,
-    answer_given: &[
+    values: &[
         (9, None, Err(1)),
         (3, None, Err(1)),
         (1, Some(0), Err(2)),
@@ -46,7 +46,7 @@ const ANSWERED: Moment = Moment {
     epoch: 0,
     part: (1, 2),
     data: Some(b"\x02\x34\x0a"),
-    answer_given: &[
+    values: &[
         (3, None, Err(1)),
         (1, Some(0), Err(2)),
         (2, Some(8), Ok(2612)),
@@ -58,7 +58,7 @@ const DOCKED: Moment = Moment {
     epoch: 1,
     part: (1, 2),
     data: None,
-    answer_given: &[
+    values: &[
         (3, Some(0), Err(3)),
         (1, Some(0), Err(2)),
         (2, Some(8), Err(4)),
@@ -70,7 +70,7 @@ const WITHOUT_OUTPUTS: Moment = Moment {
     epoch: 2,
     part: (0, 2),
     data: None,
-    answer_given: &[
+    values: &[
         (3, Some(0), Err(3)),
         (1, None, Err(1)),
         (2, Some(0), Err(4)),
@@ -82,7 +82,7 @@ const UNDOCKED: Moment = Moment {
     epoch: 3,
     part: (0, 2),
     data: Some(b"\x21\x03"),
-    answer_given: &[(3, None, Err(1)), (1, None, Err(1)), (2, Some(0), Ok(801))],
+    values: &[(3, None, Err(1)), (1, None, Err(1)), (2, Some(0), Ok(801))],
 };
 
 /// Docked once more after another answer, which was of the epoch before, and answered in the new one: 0x234.
@@ -90,7 +90,7 @@ const DOCKED_AGAIN: Moment = Moment {
     epoch: 4,
     part: (0, 2),
     data: Some(b"\x34\xf2"),
-    answer_given: &[(3, Some(0), Err(3)), (2, Some(0), Ok(564))],
+    values: &[(3, Some(0), Err(3)), (2, Some(0), Ok(564))],
 };
 
 /// A change that is appended.
@@ -127,7 +127,7 @@ const ROWS: &[Row] = &[
 ];
 
 /// Whether a view says all of this of variables.
-fn says_all(view: &View, rows: &[AnswerGiven]) -> bool {
+fn says_all(view: &View, rows: &[ShownValue]) -> bool {
     for (number, bit, value) in rows {
         let Some(variable) = VarId::new(*number) else {
             return false;
@@ -163,7 +163,7 @@ fn sees(seat: Seat, moment: &Moment) -> (Seat, bool) {
             let seen = view.epoch() == moment.epoch
                 && view.part() == moment.part
                 && has(view.inputs(0), moment.data)
-                && says_all(&view, moment.answer_given);
+                && says_all(&view, moment.values);
             (view.leave(), seen)
         }
         Err(seat) => (seat, false),

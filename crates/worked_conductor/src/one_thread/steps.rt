@@ -117,8 +117,7 @@ fn is_viewed(
 fn comes<R: Wait>(rt: &R, alloc: Global, master: &mut Master, step: &Step) -> bool {
     match step {
         Step::Write(blocks) => are_written(alloc, master, *blocks),
-        Step::Post(task, settings, answer_given) => master.post(alloc, *task % 8, settings)
-            == *answer_given,
+        Step::Post(task, settings, posted) => master.post(alloc, *task % 8, settings) == *posted,
         Step::Take(accepted, refused) => {
             master.take()
                 == Taken {

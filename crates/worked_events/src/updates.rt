@@ -3,7 +3,7 @@ use crate::answers::UNPOSTED;
 use crate::asked::Asked::Remap;
 use crate::asked::Wanted;
 use crate::lines::AXIS;
-use crate::stages::Stage::{AnswerGiven, Blocks, Rows};
+use crate::stages::Stage::{Blocks, Changes, Rows};
 use crate::stages::{Case, first_wrong_case};
 use hc_events::change::Change;
 use std::test::Fail;
@@ -47,16 +47,16 @@ const CASES: &[Case] = &[(
     AXIS,
     &[
         Blocks(4),
-        AnswerGiven(&[]),
+        Changes(&[]),
         Rows(UNPOSTED),
-        AnswerGiven(&[Update::Good(0, 0, b"\0\x34\x0a")]),
-        AnswerGiven(&[]),
+        Changes(&[Update::Good(0, 0, b"\0\x34\x0a")]),
+        Changes(&[]),
         Rows(&[
             (Remap(1001, 1, &[0x1a00]), Wanted::Edited(1, 0, 0)),
             (Remap(1001, 0, &[]), Wanted::Edited(2, 1, 3)),
         ]),
-        AnswerGiven(&[Update::Swapped(0), Update::Swapped(2)]),
-        AnswerGiven(&[]),
+        Changes(&[Update::Swapped(0), Update::Swapped(2)]),
+        Changes(&[]),
     ],
 )];
 
