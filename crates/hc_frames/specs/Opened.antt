@@ -13,6 +13,6 @@ pub record HandsOutFirst (old new : Open) : Type 0 where
 
 -- all datagrams are open, then padding and the old bytes after the frame
 pub record OpensFrame (out : List ℕ) (serial : ℕ) (ds : List (ℕ × ℕ)) (frame : Open) : Type 0 where
-  pub serial_unchanged : frame.serial ≡ serial
-  pub datagrams_unchanged : frame.datagrams.now ≡ ds
+  pub serial_is : frame.serial ≡ serial
+  pub datagrams_are : frame.datagrams.now ≡ ds
   pub text : frame.rest.now ≡ sent_datagrams_text serial (map blank_lrw ds) ++ padding (datagrams_size ds) ++ drop (frame_bytes (datagrams_size ds)) out

@@ -154,4 +154,4 @@ build_frame_spec 𝓤 𝓛 𝓜 𝓡 wired =
     suffices ! _ (ends_at 𝓛 f.ended stayed c y (live 0 (of_list (new_val ∷ []))) (Ok (new δ)) (tt, (tt, (tt, tt))) (tt, (tt, (tt, tt)))) $
     nothing ! $ nothing ! $ fjoin ! $ nothing ! $ fjoin ! $ nothing ! $ fjoin ! $ move ! (0 ∷ 2 ∷ []) $ join ! $ move ! (1 ∷ 0 ∷ []) $ join ! $ frame ! $ frame ! $
     by ! (says_three 𝓛 (λ none. cc, λ short. absurd (omega arith)) tt
-    (record { serial_unchanged = refl; datagrams_unchanged = refl; text = opened }))))))))))))))))))))
+    (record { serial_is = refl; datagrams_are = refl; text = opened }))))))))))))))))))))
