@@ -13,7 +13,7 @@ use Rattle.hc_records.specs.Image.{datagram_count, end_of, inside, task_places}
 use Rattle.hc_records.specs.Laws.{LiesInside}
 use Rattle.hc_records.specs.Line.{Member, State, groups_of, line}
 use Rattle.hc_records.specs.Lists.{lowest}
-use Rattle.hc_records.specs.Packing.{opening, packed}
+use Rattle.hc_records.specs.Packing.{empty_front, packed}
 use Rattle.hc_records.specs.Project.{lowest_fault}
 use Rattle.hc_records.specs.TaskList.{task_list}
 use Rattle.hc_records.proofs.lemmas.Addresses.{uncrowded-few}
@@ -46,8 +46,8 @@ bytes_most end most = omega arith
 short : (state : State) (named : Named) → lowest_fault (groups_of state.groups) ≡ None → line_data_length (line state) named ≤ MOST_DATAGRAM_BYTES
 short state named project =
     let list = task_list named.0 (line state) in
-    let areas = packed opening list in
-    let lie : All LiesInside (inside named.1 areas) = All-filter (λ area. area.datagram == named.1) LiesInside areas (packed-inside opening list (project-packable state named.0 project)) in
+    let areas = packed empty_front list in
+    let lie : All LiesInside (inside named.1 areas) = All-filter (λ area. area.datagram == named.1) LiesInside areas (packed-inside empty_front list (project-packable state named.0 project)) in
     bytes_most (end_of (inside named.1 areas)) (greatest-most (λ area. area.bit + area.bits) 0 MOST_AREA_BITS (inside named.1 areas) (omega arith) lie)
 
 -- so each frame fits

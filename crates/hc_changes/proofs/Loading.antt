@@ -11,7 +11,7 @@ use Rattle.hc_records.specs.Boundaries.{later_keys}
 use Rattle.hc_records.specs.Image.{datagram_count, logical_address, task_places}
 use Rattle.hc_records.specs.Laws.{IsPackable}
 use Rattle.hc_records.specs.Line.{groups_of, line_from}
-use Rattle.hc_records.specs.Packing.{Placed, opening, packed}
+use Rattle.hc_records.specs.Packing.{Placed, empty_front, packed}
 use Rattle.hc_records.specs.Project.{lowest_fault}
 use Rattle.hc_records.specs.TaskList.{Keyed, task_list}
 use Rattle.hc_records.proofs.lemmas.Cuts.{count-later_keys}
@@ -35,14 +35,14 @@ abbrev pub loaded_up_to : ℕ → List Placed → ℕ → TaskTable
 loaded_up_to task areas number = loaded task areas (min number (datagram_count areas))
 
 -- a datagram that has some bytes is one of the task's
-some-within : (low : Bool) (list : List Keyed) (number : ℕ) → nat_lt number (datagram_count (packed opening list)) ≡ low → 0 < (datagram_use_in (packed opening list) number).length
-    → number < datagram_count (packed opening list)
+some-within : (low : Bool) (list : List Keyed) (number : ℕ) → nat_lt number (datagram_count (packed empty_front list)) ≡ low → 0 < (datagram_use_in (packed empty_front list) number).length
+    → number < datagram_count (packed empty_front list)
 some-within low list number test some = search (rules, ltb-true, ltb-false, inside-none)
 
-next-some : (task : ℕ) (list : List Keyed) (number : ℕ) (table : TaskTable) (datagram_use : DatagramUse) → table ≡ loaded_up_to task (packed opening list) number
-    → datagram_use ≡ datagram_use_in (packed opening list) number → 0 < datagram_use.length → with_datagram_use task table datagram_use ≡ loaded_up_to task (packed opening list) (number + 1)
+next-some : (task : ℕ) (list : List Keyed) (number : ℕ) (table : TaskTable) (datagram_use : DatagramUse) → table ≡ loaded_up_to task (packed empty_front list) number
+    → datagram_use ≡ datagram_use_in (packed empty_front list) number → 0 < datagram_use.length → with_datagram_use task table datagram_use ≡ loaded_up_to task (packed empty_front list) (number + 1)
 next-some task list number table datagram_use is own some =
-    let areas = packed opening list in
+    let areas = packed empty_front list in
     let count = datagram_count areas in
     let here : datagram_use.length ≡ (datagram_use_in areas number).length = ap (λ (l : DatagramUse). l.length) own in
     let within = some-within (nat_lt number count) list number refl (omega arith) in
@@ -51,14 +51,14 @@ next-some task list number table datagram_use is own some =
     search rules
 
 -- and one that has none is after the last one
-none-after_it : (low : Bool) (list : List Keyed) (number : ℕ) → All IsPackable list → nat_lt number (datagram_count (packed opening list)) ≡ low
-    → (datagram_use_in (packed opening list) number).length ≡ 0 → datagram_count (packed opening list) ≤ number
+none-after_it : (low : Bool) (list : List Keyed) (number : ℕ) → All IsPackable list → nat_lt number (datagram_count (packed empty_front list)) ≡ low
+    → (datagram_use_in (packed empty_front list) number).length ≡ 0 → datagram_count (packed empty_front list) ≤ number
 none-after_it low list number packable test none = search (rules, length-sendable, ltb-true, ltb-false)
 
-next-none : (task : ℕ) (list : List Keyed) (number : ℕ) (table : TaskTable) (datagram_use : DatagramUse) → All IsPackable list → table ≡ loaded_up_to task (packed opening list) number
-    → datagram_use ≡ datagram_use_in (packed opening list) number → datagram_use.length ≡ 0 → table ≡ loaded_up_to task (packed opening list) (number + 1)
+next-none : (task : ℕ) (list : List Keyed) (number : ℕ) (table : TaskTable) (datagram_use : DatagramUse) → All IsPackable list → table ≡ loaded_up_to task (packed empty_front list) number
+    → datagram_use ≡ datagram_use_in (packed empty_front list) number → datagram_use.length ≡ 0 → table ≡ loaded_up_to task (packed empty_front list) (number + 1)
 next-none task list number table datagram_use packable is own none =
-    let areas = packed opening list in
+    let areas = packed empty_front list in
     let count = datagram_count areas in
     let after_it = none-after_it (nat_lt number count) list number packable refl (sym (ap (λ (l : DatagramUse). l.length) own) ∙ none) in
     let same : min number count ≡ min (number + 1) count = omega arith in
@@ -66,7 +66,7 @@ next-none task list number table datagram_use packable is own none =
 
 -- at the last boundary all datagrams are added
 
-keys-many : (list : List Keyed) → All IsPackable list → datagram_count (packed opening list) ≤ length (START ∷ later_keys list)
+keys-many : (list : List Keyed) → All IsPackable list → datagram_count (packed empty_front list) ≤ length (START ∷ later_keys list)
 keys-many [] all = omega arith
 keys-many (area ∷ areas) all = let count = count-later_keys area areas all in omega arith
 

@@ -2,7 +2,7 @@
 use Rattle.std.specs.Prelude.{◌≡◌, ℕ, true, false, List, None}
 use Rattle.hc_records.specs.Line.{State, groups_of, line}
 use Rattle.hc_records.specs.TaskList.{Keyed}
-use Rattle.hc_records.specs.Packing.{opening, packed}
+use Rattle.hc_records.specs.Packing.{empty_front, packed}
 use Rattle.hc_records.specs.Image.{inside}
 use Rattle.hc_records.specs.Project.{lowest_fault}
 use Rattle.hc_records.specs.Boundaries.{is_touched_task}
@@ -14,7 +14,7 @@ use Rattle.hc_cuts.specs.Keeping.{is_unchanged}
 abbrev pub UnchangedDatagramsStay : Type 0
 UnchangedDatagramsStay =
     (old new : List Keyed) (datagram : ℕ) → IsTaskList old → IsTaskList new → is_unchanged old new datagram ≡ true
-    → inside datagram (packed opening new) ≡ inside datagram (packed opening old)
+    → inside datagram (packed empty_front new) ≡ inside datagram (packed empty_front old)
 
 -- a task that no edit touched has the table that it had
 abbrev pub UntouchedTasksStay : Type 0

@@ -1,5 +1,5 @@
 -- Which variables of a line an edit changes, given by its candidates and by the slaves that change.
-use Rattle.std.specs.Prelude.{◌≡◌, ℕ, ◌+◌, ◌==◌, ◌<◌, ◌≤◌, not, Bool, List, [], ◌++◌, filter, find, map, None, Some, option_map}
+use Rattle.std.specs.Prelude.{◌≡◌, ℕ, ◌+◌, ◌==◌, ◌<◌, ◌≤◌, not, Bool, if◌then◌else◌, List, [], ◌++◌, filter, map, None, Some}
 use Rattle.std.specs.List.{flat_map, list_any, zip}
 use Rattle.std.specs.Option.{option_map_or}
 use Rattle.hc_records.specs.declared.limits.TheConstants.{MOST_AREA_BITS, MOST_DATAGRAMS, TASKS}
@@ -10,7 +10,7 @@ use Rattle.hc_records.specs.Packing.{Placed}
 use Rattle.hc_records.specs.Project.{area_names, entry_names}
 use Rattle.hc_places.specs.Found.{area_rows}
 use Rattle.hc_places.specs.Ranges.{OffersBits}
-use Rattle.hc_places.specs.Swap.{AreOnce, ChangedRow, new_place, same_found}
+use Rattle.hc_places.specs.Swap.{AreOnce, ChangedRow, said_of, same_found}
 use Rattle.hc_places.specs.Table.{VariableRow, Table, place_in}
 use Rattle.hc_cuts.specs.LineChange.{LineChange}
 use Rattle.hc_changes.specs.MaybeMovedAreas.{MaybeMoved}
@@ -77,4 +77,4 @@ variables_by_rank groups = flat_map (λ declared. map (λ slave. area_names slav
 -- rows say of each variable whose place differs between two tables its new place or none, once, and nothing of any other
 pub record SayPlaces (old new : Table) (rows : List ChangedRow) : Type 0 where
   pub once : AreOnce rows
-  pub says : (variable : ℕ) → option_map (λ changed. changed.1) (find (λ changed. changed.0 == variable) rows) ≡ new_place (place_in old variable) (place_in new variable)
+  pub says : (variable : ℕ) → said_of rows variable ≡ (if same_found (place_in old variable) (place_in new variable) then None else Some (place_in new variable))

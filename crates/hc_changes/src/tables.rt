@@ -5,7 +5,7 @@ ghost use Rattle.hc_records.specs.declared.limits.TheConstants.{TASKS};
 ghost use Rattle.hc_records.specs.Image.{task_places, tasks};
 ghost use Rattle.hc_records.specs.Line.{line_from};
 ghost use Rattle.hc_places.specs.DatagramUses.{IsDatagramUse, datagram_use_in};
-ghost use Rattle.hc_places.specs.Swap.{ChangesAscend, AreNewTasks};
+ghost use Rattle.hc_places.specs.Swap.{ChangesAscend, AreDifferences};
 ghost use Rattle.hc_places.specs.Table.{table_of, task_table};
 ghost use Rattle.hc_changes.specs.Tables.{AreOfLine, AfterEdit};
 
@@ -94,7 +94,7 @@ pub fn changed_tasks(
     before: &Before,
 ) -> Result<Vec<ChangedTask>, AllocError>
     requires { AreOfLine cuts.now }
-    ensures says { IfOk result (λ changed. AfterEdit old.now before.now cuts.now (λ is. AreNewTasks old.now.tasks (table_of (line_from 1 is)).tasks changed.items)) }
+    ensures says { IfOk result (λ changed. AfterEdit old.now before.now cuts.now (λ is. AreDifferences old.now.tasks (table_of (line_from 1 is)).tasks changed.items)) }
     ensures ascends { IfOk result (λ changed. ChangesAscend changed.items) }
 {
     let tables = new_tables(alloc, cuts, old, before)?;

@@ -1,6 +1,6 @@
 -- The tasks that an edit changes, by what its swap says of the tables and of the variables' places.
 use Rattle.std.proofs.Common.{◌≡◌, ℕ, ◌<◌, ◌==◌, ◌||◌, ◌∙◌, Bool, true, false, cond, Contains, List, [], ◌∷◌, refl, sym, ap, ap₂, subst, arith, inl, inr, Option, Some, None}
-use Rattle.std.specs.Prelude.{find, is_some, not, option_map, slice_get}
+use Rattle.std.specs.Prelude.{find, if◌then◌else◌, is_some, not, option_map, slice_get}
 use Rattle.std.specs.List.{list_any}
 use Rattle.std.proofs.lemmas.Bool.{eq-eqb, eqb-true, false_from_ne_true}
 use Rattle.std.proofs.lemmas.List.Elements.{All-contains_itself}
@@ -8,7 +8,7 @@ use Rattle.std.proofs.lemmas.Option.{same_Some}
 use Rattle.hc_records.specs.declared.limits.TheConstants.{TASKS}
 use Rattle.hc_records.specs.Image.{VariablePlace}
 use Rattle.hc_records.specs.Line.{Member}
-use Rattle.hc_places.specs.Swap.{Change, ChangedRow, ChangedTask, ChangesAscend, IsNewTask, SaysWhatDiffers, changed_variables, new_place, same_found, said_of, table_said_of, variables_of_both}
+use Rattle.hc_places.specs.Swap.{Change, ChangedRow, ChangedTask, ChangesAscend, IsDifference, SaysWhatDiffers, changed_variables, same_found, said_of, variables_of_both}
 use Rattle.hc_places.specs.Table.{Table, TaskTable, place_in, table_of, task_table}
 use Rattle.hc_places.proofs.lemmas.DatagramUses.{table-at}
 use Rattle.hc_places.proofs.lemmas.Found.{find-holds}
@@ -38,7 +38,7 @@ some-mapped : {X Y : Type 0} (f : X → Y) (found : Option X) → is_some (optio
 some-mapped f None = refl
 some-mapped f (Some x) = refl
 
-new-table : (a b : TaskTable) (said : Option TaskTable) → IsNewTask (Some a) (Some b) said → is_some said ≡ not (same_task a b)
+new-table : (a b : TaskTable) (said : Option TaskTable) → IsDifference (Some a) (Some b) said → is_some said ≡ not (same_task a b)
 new-table a b None same = sym (ap not (ap (same_task a) (sym (same_Some a b same)) ∙ task-alike a))
 new-table a b (Some now) is = sym (ap not (false_from_ne_true (same_task a b) (λ same. is.1 (ap (λ (t : TaskTable). Some t) (tasks-same a b same)))))
 
@@ -46,9 +46,9 @@ pub table-differs : (old new : List Member) (change : Change) (task : ℕ) → t
 table-differs old new change task low says =
     any-found (λ (changed : ChangedTask). changed.0 == task) change.tasks
     ∙ sym (some-mapped (λ (found : ChangedTask). found.1) (find (λ (changed : ChangedTask). changed.0 == task) change.tasks))
-    ∙ new-table (task_table old task) (task_table new task) (table_said_of change task)
-    (subst (λ (a : Option TaskTable). IsNewTask a (Some (task_table new task)) (table_said_of change task)) (table-at old task low)
-    (subst (λ (b : Option TaskTable). IsNewTask (slice_get (table_of old).tasks task) b (table_said_of change task)) (table-at new task low) (says.tasks task)))
+    ∙ new-table (task_table old task) (task_table new task) (said_of change.tasks task)
+    (subst (λ (a : Option TaskTable). IsDifference a (Some (task_table new task)) (said_of change.tasks task)) (table-at old task low)
+    (subst (λ (b : Option TaskTable). IsDifference (slice_get (table_of old).tasks task) b (said_of change.tasks task)) (table-at new task low) (says.tasks task)))
 
 -- the places
 
@@ -70,7 +70,7 @@ row-found rows row ascends has = by (find (λ (changed : ChangedRow). changed.0 
           | inr (inr less) ↦ absurd (omega (arith, less, same))
         ]
 
-differs-said : (a b : Option VariablePlace) (now : Option VariablePlace) → new_place a b ≡ Some now → (same_found a b ≡ false) × (b ≡ now)
+differs-said : (a b : Option VariablePlace) (now : Option VariablePlace) → (if same_found a b then None else Some b) ≡ Some now → (same_found a b ≡ false) × (b ≡ now)
 differs-said a b now = by (same_found a b)
   where
     by : (same : Bool) → cond same None (Some b) ≡ Some now → (same ≡ false) × (b ≡ now)
@@ -104,7 +104,7 @@ place-differs old new change task ascends says = both-ways (has_place old change
         let variable = which.0 in
         let own = contains-unkept (λ v. not (same_found (place_in old v) (place_in new v))) (variables_of_both old new) variable which.1 in
         let differ : same_found (place_in old variable) (place_in new variable) ≡ false = not-true' (same_found (place_in old variable) (place_in new variable)) own.1 in
-        let said : said_of change variable ≡ Some (place_in new variable) = says.places variable ∙ ap (λ b. cond b None (Some (place_in new variable))) differ in
+        let said : said_of change.rows variable ≡ Some (place_in new variable) = says.places variable ∙ ap (λ b. cond b None (Some (place_in new variable))) differ in
         found variable which.2 (find (λ (changed : ChangedRow). changed.0 == variable) change.rows) refl said
       where
         not-true' : (b : Bool) → not b ≡ true → b ≡ false
@@ -112,7 +112,7 @@ place-differs old new change task ascends says = both-ways (has_place old change
         not-true' false e = refl
 
         found : (variable : ℕ) → (lies_in_task task (place_in old variable) || lies_in_task task (place_in new variable)) ≡ true → (one : Option ChangedRow) → find (λ (changed : ChangedRow). changed.0 == variable) change.rows ≡ one
-            → said_of change variable ≡ Some (place_in new variable) → has_place old change task ≡ true
+            → said_of change.rows variable ≡ Some (place_in new variable) → has_place old change task ≡ true
         found variable lies None is said = let never : None ≡ Some (place_in new variable) = sym (ap (option_map (λ (changed : ChangedRow). changed.1)) is) ∙ said in cc
         found variable lies (Some row) is said =
             let has = find-holds (Contains change.rows) (λ (changed : ChangedRow). changed.0 == variable) change.rows row is (All-contains_itself change.rows) in

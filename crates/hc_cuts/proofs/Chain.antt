@@ -9,7 +9,7 @@ use Rattle.hc_records.specs.declared.keys.Key.{Key}
 use Rattle.hc_records.specs.declared.keys.TheConstants.Key.{START, END}
 use Rattle.hc_records.specs.Keys.{same_key, is_before, is_within}
 use Rattle.hc_records.specs.TaskList.{Keyed}
-use Rattle.hc_records.specs.Packing.{Front, opening, fits, front_with, packed}
+use Rattle.hc_records.specs.Packing.{Front, empty_front, fits, front_with, packed}
 use Rattle.hc_records.specs.Image.{datagram_count}
 use Rattle.hc_records.specs.Boundaries.{later_keys}
 use Rattle.hc_records.specs.Laws.{IsPackable, cuts_from}
@@ -42,12 +42,12 @@ cuts-number n m bit last (area ∷ areas) =
 -- from an area that begins a datagram on, the cuts are those of a list of their own
 
 own-cuts : (front : Front) (area : Keyed) (areas : List Keyed) → area.1 ≤ MOST_AREA_BITS
-    → cuts_from (front_with (place false front area)) areas ≡ cuts_from opening (area ∷ areas)
+    → cuts_from (front_with (place false front area)) areas ≡ cuts_from empty_front (area ∷ areas)
 own-cuts front area areas narrow = grind (arith, cuts-number, opening-beginning, opening-fits)
 
 -- the cuts from a next one on: none at END, else that one and those of the areas from there on
 abbrev goes_on : Key → List Keyed → List Key
-goes_on next list = if same_key next END then [] else next ∷ cuts_from opening (areas_from next list)
+goes_on next list = if same_key next END then [] else next ∷ cuts_from empty_front (areas_from next list)
 
 -- an area before a key is none of those from there on
 skipped : (area : Keyed) (areas : List Keyed) (next : Key) → is_before area.0 next ≡ true → goes_on next areas ≡ goes_on next (area ∷ areas)
@@ -63,8 +63,8 @@ cut-here first front area areas is =
     filter-stays (λ a. is_within area.0 a.0) (area ∷ areas)
     (All-cons (λ a. is_within area.0 a.0 ≡ true) area areas (within-refl area.0)
     (All-weaker (λ a. is_before area.0 a.0 ≡ true) (λ a. is_within area.0 a.0 ≡ true) (λ a high. within-from_before area.0 a.0 high) areas (list-after_it first area areas is))) in
-    ap (λ (keys : List Key). area.0 ∷ keys) (own-cuts front area areas narrow ∙ ap (cuts_from opening) (sym whole))
-    ∙ sym (cond-false (same_key area.0 END) [] (area.0 ∷ cuts_from opening (areas_from area.0 (area ∷ areas))) (other-sym END area.0 (before-other area.0 END below)))
+    ap (λ (keys : List Key). area.0 ∷ keys) (own-cuts front area areas narrow ∙ ap (cuts_from empty_front) (sym whole))
+    ∙ sym (cond-false (same_key area.0 END) [] (area.0 ∷ cuts_from empty_front (areas_from area.0 (area ∷ areas))) (other-sym END area.0 (before-other area.0 END below)))
 
 step-by : (fitting : Bool) (first : Key) (front : Front) (area : Keyed) (areas : List Keyed) → IsListFrom first (area ∷ areas)
     → ((next : Front) → cuts_from next areas ≡ goes_on (next_cut next areas) areas)
@@ -109,26 +109,26 @@ pub record Follows (tree : Tree) (from next : Key) : Type 0 where
   pub place : same_key next END ≡ false → HasPlace tree.slaves next
 
 -- what holds of each area from a key on holds of the next cut, unless that is END
-cut-holds : (P : Key → Type 0) (list : List Keyed) → All (λ area. P area.0) list → same_key (next_cut opening list) END ≡ false → P (next_cut opening list)
+cut-holds : (P : Key → Type 0) (list : List Keyed) → All (λ area. P area.0) list → same_key (next_cut empty_front list) END ≡ false → P (next_cut empty_front list)
 cut-holds P list all =
-    cut-all (λ key. same_key key END ≡ false → P key) opening list
+    cut-all (λ key. same_key key END ≡ false → P key) empty_front list
     (All-weaker (λ area. P area.0) (λ area. same_key area.0 END ≡ false → P area.0) (λ area holds other. holds) list all)
     (λ other. let same = same_key-refl END in cc)
 
-follows-cut : (tree : Tree) (from : Key) → HoldsTaskList tree → Follows tree from (next_cut opening (areas_from from tree.list))
+follows-cut : (tree : Tree) (from : Key) → HoldsTaskList tree → Follows tree from (next_cut empty_front (areas_from from tree.list))
 follows-cut tree from holds =
     let list = tree.list in
     let rest = areas_from from list in
     let is = areas-from from list holds.list in
-    let next = next_cut opening rest in
-    let cuts : later_keys rest ≡ goes_on next rest = later_keys-cuts rest is.packable ∙ cuts-go_on from opening rest is in
+    let next = next_cut empty_front rest in
+    let cuts : later_keys rest ≡ goes_on next rest = later_keys-cuts rest is.packable ∙ cuts-go_on from empty_front rest is in
     record {
-      last = λ last. cuts ∙ cond-true (same_key next END) [] (next ∷ cuts_from opening (areas_from next rest)) last;
+      last = λ last. cuts ∙ cond-true (same_key next END) [] (next ∷ cuts_from empty_front (areas_from next rest)) last;
       more = λ other.
           let front_with : is_within from next ≡ true = cut-holds (λ key. is_within from key ≡ true) rest is.from other in
-          cuts ∙ cond-false (same_key next END) [] (next ∷ cuts_from opening (areas_from next rest)) other
+          cuts ∙ cond-false (same_key next END) [] (next ∷ cuts_from empty_front (areas_from next rest)) other
           ∙ ap (λ (keys : List Key). next ∷ keys)
-          (ap (cuts_from opening) (areas-twice from next list front_with) ∙ sym (later_keys-cuts (areas_from next list) (areas-from next list holds.list).packable));
+          (ap (cuts_from empty_front) (areas-twice from next list front_with) ∙ sym (later_keys-cuts (areas_from next list) (areas-from next list holds.list).packable));
       place = cut-holds (λ key. HasPlace tree.slaves key) rest (All-filter (λ area. is_within from area.0) (λ area. HasPlace tree.slaves area.0) list holds.places);
     }
 
@@ -171,12 +171,12 @@ ends tree starts from next holds searched last is_placed =
 
 -- as many datagrams as keys
 
-pub count-keys : (list : List Keyed) → All IsPackable list → datagram_count (packed opening list) ≤ length (START ∷ later_keys list)
+pub count-keys : (list : List Keyed) → All IsPackable list → datagram_count (packed empty_front list) ≤ length (START ∷ later_keys list)
 count-keys [] all = omega arith
 count-keys (area ∷ areas) all = let count = count-later_keys area areas all in omega arith
 
 pub ends-few : (tree : Tree) (starts : List Key) → HoldsTaskList tree → starts ≡ START ∷ later_keys tree.list → length starts ≤ MOST_DATAGRAMS
-    → datagram_count (packed opening tree.list) ≤ MOST_DATAGRAMS
+    → datagram_count (packed empty_front tree.list) ≤ MOST_DATAGRAMS
 ends-few tree starts holds is few = grind (arith, count-keys)
 
 over_limit-by : (list : List Keyed) → All IsPackable list → 16 ≤ length (later_keys list) → IsOverLimit list

@@ -8,7 +8,7 @@ use Rattle.hc_records.specs.declared.keys.Key.{Key}
 use Rattle.hc_records.specs.declared.keys.TheConstants.Key.{START, END}
 use Rattle.hc_records.specs.Keys.{is_within, same_key}
 use Rattle.hc_records.specs.TaskList.{Keyed}
-use Rattle.hc_records.specs.Packing.{opening}
+use Rattle.hc_records.specs.Packing.{empty_front}
 use Rattle.hc_records.specs.Boundaries.{Interval, boundaries, later_keys, meets_hull, spans}
 use Rattle.hc_records.specs.SpanLaws.{IsTaskList, areas_from}
 use Rattle.hc_records.proofs.lemmas.KeyOrder.{within-trans}
@@ -43,7 +43,7 @@ same-next : (xs ys : List Keyed) (from next : Key) → IsTaskList xs → IsTaskL
 same-next xs ys from next is is' searched agree =
     let agree' : Agree from next (areas_from from xs) (areas_from from ys) =
     record { at = λ key low high. width-from from xs key low ∙ agree.at key low high ∙ sym (width-from from ys key low) } in
-    let same = same-cut from next opening (areas_from from xs) (areas_from from ys) (areas-from from xs is) (areas-from from ys is') (sym (searched ∙ boundary-cut from xs is)) agree' in
+    let same = same-cut from next empty_front (areas_from from xs) (areas_from from ys) (areas-from from xs is) (areas-from from ys is') (sym (searched ∙ boundary-cut from xs is)) agree' in
     sym same.0 ∙ sym (boundary-cut from ys is')
 
 -- what follows a key among the boundaries

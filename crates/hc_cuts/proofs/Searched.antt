@@ -9,7 +9,7 @@ use Rattle.hc_records.specs.declared.records.Dir.TheVariants.{Out, In}
 use Rattle.hc_records.specs.declared.keys.Key.{Key}
 use Rattle.hc_records.specs.declared.keys.TheConstants.Key.{END}
 use Rattle.hc_records.specs.TaskList.{Keyed}
-use Rattle.hc_records.specs.Packing.{Front, opening, beginning, fits, placed_at, front_with}
+use Rattle.hc_records.specs.Packing.{Front, empty_front, beginning, fits, placed_at, front_with}
 use Rattle.hc_records.specs.Laws.{IsPackable, cuts_from}
 use Rattle.hc_records.specs.SpanLaws.{IsTaskList, areas_from, next_cut}
 use Rattle.hc_records.proofs.lemmas.Cuts.{later_keys-cuts}
@@ -30,10 +30,10 @@ cuts-next front (area ∷ areas) =
     let front' = front_with (placed_at front area) in
     first-by (fits front area) area.0 (cuts_from front' areas) (next_cut front' areas) (cuts-next front' areas)
 
-pub boundary-cut : (from : Key) (list : List Keyed) → IsTaskList list → next_boundary from list ≡ next_cut opening (areas_from from list)
+pub boundary-cut : (from : Key) (list : List Keyed) → IsTaskList list → next_boundary from list ≡ next_cut empty_front (areas_from from list)
 boundary-cut from list is =
     ap (λ (keys : List Key). slice_index_or keys 0 END) (later_keys-cuts (areas_from from list) (areas-from from list is).packable)
-    ∙ cuts-next opening (areas_from from list)
+    ∙ cuts-next empty_front (areas_from from list)
 
 -- a datagram with a number, filled so far
 abbrev numbered : ℕ → Filled → Front
@@ -67,7 +67,7 @@ cut_begun bit area areas =
     else record { key = area.0; bits = area.1; datagram = 0 + 1; bit = 0 })) areas
     else area.0
 
-fresh-cut : (last : Dir) (list : List Keyed) → next_cut (fresh last) list ≡ next_cut opening list
+fresh-cut : (last : Dir) (list : List Keyed) → next_cut (fresh last) list ≡ next_cut empty_front list
 fresh-cut last [] = refl
 fresh-cut last (area ∷ areas) = ap (λ (bit : ℕ). cut_begun bit area areas) (fresh-beginning last area ∙ sym (fresh-beginning Out area))
 

@@ -9,7 +9,7 @@ use Rattle.hc_records.specs.declared.keys.Key.{Key}
 use Rattle.hc_records.specs.declared.keys.TheConstants.Key.{START, END}
 use Rattle.hc_records.specs.Keys.{is_before, is_within}
 use Rattle.hc_records.specs.TaskList.{Keyed}
-use Rattle.hc_records.specs.Packing.{Front, Placed, opening, beginning, fits, front_with, packed}
+use Rattle.hc_records.specs.Packing.{Front, Placed, empty_front, beginning, fits, front_with, packed}
 use Rattle.hc_records.specs.Boundaries.{boundaries, later_keys, spans}
 use Rattle.hc_records.specs.Image.{inside}
 use Rattle.hc_records.specs.Laws.{IsPackable}
@@ -120,8 +120,8 @@ span-places at list is within =
 
 -- a walk over the spans: the places so far, and those that are left
 
-pub spans-begin : (keys : List Key) (list : List Keyed) → IsTaskList list → keys ≡ boundaries list → places_from 0 keys list ≡ packed opening list
-spans-begin keys list is all = rw all (ap (packed opening) (all-from list is))
+pub spans-begin : (keys : List Key) (list : List Keyed) → IsTaskList list → keys ≡ boundaries list → places_from 0 keys list ≡ packed empty_front list
+spans-begin keys list is all = rw all (ap (packed empty_front) (all-from list is))
 
 pub length-end : (starts : List Key) → length (starts ++ END ∷ []) ≡ length starts + 1
 length-end starts = length-append starts (END ∷ [])
@@ -159,19 +159,19 @@ is-span_at tree starts at from next other holds all within first last =
     }
 
 pub spans-end : (tree : Tree) (starts : List Key) (places : List Placed) (at : ℕ) → HoldsTaskList tree → at ≡ length starts
-    → places ++ places_from at (starts ++ END ∷ []) tree.list ≡ packed opening tree.list → places ≡ packed opening tree.list
+    → places ++ places_from at (starts ++ END ∷ []) tree.list ≡ packed empty_front tree.list → places ≡ packed empty_front tree.list
 spans-end tree starts places at holds last whole =
     grind (arith, boundary-last, none-from_end, append-none)
 
 -- there is no datagram after those that begin at a boundary
 pub after_it-starts : (list : List Keyed) (starts : List Key) (number : ℕ) → All IsPackable list → starts ++ END ∷ [] ≡ boundaries list → length starts ≤ number
-    → inside number (packed opening list) ≡ []
+    → inside number (packed empty_front list) ≡ []
 after_it-starts list starts number packable all front_with =
     let many = length-end starts in
     let same : length (starts ++ END ∷ []) ≡ length (boundaries list) = ap length all in
     let keys = length-end (START ∷ later_keys list) in
     let count = count-keys list packable in
-    inside-none number (packed opening list) (omega arith)
+    inside-none number (packed empty_front list) (omega arith)
 
 -- the boundaries, as the caller has them and as they are kept
 pub own-boundaries : (unchanged own : TaskCuts) (starts : List Key) → own ≡ unchanged → starts ≡ own.starts → unchanged.starts ++ END ∷ [] ≡ boundaries unchanged.tree.list

@@ -14,7 +14,7 @@ use Rattle.hc_records.specs.declared.keys.TheConstants.Key.{START, END}
 use Rattle.hc_records.specs.TaskList.{Keyed}
 use Rattle.hc_records.specs.Boundaries.{boundaries, is_touched, later_keys, touched, unsettled_spans, width_in}
 use Rattle.hc_records.specs.Image.{datagram_count}
-use Rattle.hc_records.specs.Packing.{opening, packed}
+use Rattle.hc_records.specs.Packing.{empty_front, packed}
 use Rattle.hc_bitsum.specs.Tree.{HasPlace, HoldsTaskList, Tree}
 use Rattle.hc_bitsum.proofs.lemmas.Widths.{answer_given-by_widths}
 use Rattle.hc_cuts.specs.Firsts.{IsOverLimit}
@@ -88,7 +88,7 @@ cut-unchanged task slaves before last was same starts =
 
 -- a task whose list needs too many datagrams, or doesn't
 
-pub fits-by : (task : ℕ) (slaves : List (List Area)) (tree : Tree) → tree ≡ tree_by task slaves → datagram_count (packed opening tree.list) ≤ MOST_DATAGRAMS
+pub fits-by : (task : ℕ) (slaves : List (List Area)) (tree : Tree) → tree ≡ tree_by task slaves → datagram_count (packed empty_front tree.list) ≤ MOST_DATAGRAMS
     → is_over_limit task slaves ≡ false
 fits-by task slaves tree is few = grind (arith, nat_tests)
 
@@ -122,7 +122,7 @@ unturned task old new last is starts same =
 
 pub unturned-fits : (task : ℕ) (old new : List (List Area)) → list_by task old ≡ list_by task new → is_over_limit task old ≡ false → is_over_limit task new ≡ false
 unturned-fits task old new same fits =
-    sym (ap (λ (list : List Keyed). nat_lt MOST_DATAGRAMS (datagram_count (packed opening list))) same) ∙ fits
+    sym (ap (λ (list : List Keyed). nat_lt MOST_DATAGRAMS (datagram_count (packed empty_front list))) same) ∙ fits
 
 filter-none : (test : Key → Bool) (keys : List Key) → ((key : Key) → test key ≡ false) → filter test keys ≡ []
 filter-none test [] none = refl

@@ -5,7 +5,7 @@ use Rattle.hc_records.specs.declared.keys.Key.{Key}
 use Rattle.hc_records.specs.declared.keys.TheConstants.Key.{START, END}
 use Rattle.hc_records.specs.Boundaries.{boundaries, later_keys}
 use Rattle.hc_records.specs.Image.{datagram_count}
-use Rattle.hc_records.specs.Packing.{opening, packed}
+use Rattle.hc_records.specs.Packing.{empty_front, packed}
 use Rattle.hc_records.specs.SpanLaws.{IsTaskList}
 use Rattle.hc_bitsum.specs.Tree.{Tree}
 use Rattle.hc_cuts.specs.Starts.{TaskCuts}
@@ -43,7 +43,7 @@ line_cuts slaves = task_cuts_from 8 0 slaves
 
 -- a task needs more than 16 datagrams
 abbrev pub is_over_limit : ℕ → AreaLine → Bool
-is_over_limit task slaves = nat_lt MOST_DATAGRAMS (datagram_count (packed opening (list_by task slaves)))
+is_over_limit task slaves = nat_lt MOST_DATAGRAMS (datagram_count (packed empty_front (list_by task slaves)))
 
 -- the first of `count` tasks that needs more than 16 datagrams
 abbrev pub over_limit_from : ℕ → ℕ → AreaLine → Option ℕ

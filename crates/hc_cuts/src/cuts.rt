@@ -2,7 +2,7 @@
 ghost use Rattle.std.specs.Prelude.{◌≡◌, ◌+◌, ◌*◌, ◌<◌, ◌≤◌, ◌∷◌, ◌++◌, [], IfOk, OnErr, OnOk, length, slice_index_or};
 ghost use Rattle.hc_records.specs.Boundaries.{boundaries};
 ghost use Rattle.hc_records.specs.Image.{datagram_count, inside};
-ghost use Rattle.hc_records.specs.Packing.{opening, packed};
+ghost use Rattle.hc_records.specs.Packing.{empty_front, packed};
 ghost use Rattle.hc_records.specs.declared.keys.TheConstants.Key.{END};
 ghost use Rattle.hc_records.specs.declared.limits.TheConstants.{MOST_DATAGRAMS};
 ghost use Rattle.hc_cuts.specs.Firsts.{IsOverLimit};
@@ -178,7 +178,7 @@ impl Cuts {
         requires { AreOfBefore self.old.starts hulls.now self.old.tree.list }
         ensures areas { self.new.tree ≡ self.old.tree }
         ensures starts { OnOk result (self.new.starts ++ END ∷ [] ≡ boundaries self.old.tree.list) }
-        ensures few { OnOk result (datagram_count (packed opening self.old.tree.list) ≤ MOST_DATAGRAMS) }
+        ensures few { OnOk result (datagram_count (packed empty_front self.old.tree.list) ≤ MOST_DATAGRAMS) }
         ensures refused { OnErr result (IsOverLimit self.old.tree.list) }
         ensures stay { OnErr result (self.new.starts ≡ self.old.starts) }
         ensures least { IfOk result (λ count. steps.old + count ≤ steps.new) }
@@ -198,7 +198,7 @@ impl Cuts {
     /// allocation fails.
     pub fn datagram(&self, alloc: Global, number: u16) -> Result<Vec<Placed>, AllocError>
         requires { self.now.starts ++ END ∷ [] ≡ boundaries self.now.tree.list }
-        ensures { IfOk result (λ places. places.items ≡ inside number (packed opening self.now.tree.list)) }
+        ensures { IfOk result (λ places. places.items ≡ inside number (packed empty_front self.now.tree.list)) }
     {
         let mut places = Vec::new(alloc);
         let starts = self.starts.as_slice();
@@ -215,7 +215,7 @@ impl Cuts {
     /// The boundaries must be its areas', as `cut` leaves them. `AllocError` if an allocation fails.
     pub fn places(&self, alloc: Global) -> Result<Vec<Placed>, AllocError>
         requires { self.now.starts ++ END ∷ [] ≡ boundaries self.now.tree.list }
-        ensures { IfOk result (λ places. places.items ≡ packed opening self.now.tree.list) }
+        ensures { IfOk result (λ places. places.items ≡ packed empty_front self.now.tree.list) }
     {
         let mut places = Vec::new(alloc);
         let starts = self.starts.as_slice();

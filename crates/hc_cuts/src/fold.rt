@@ -2,7 +2,7 @@
 ghost use Rattle.std.specs.Prelude.{◌≡◌, ◌+◌, ◌<◌, ◌≤◌, ◌++◌, All, IfOk, OnErr, OnOk, length};
 ghost use Rattle.hc_records.specs.Image.{datagram_count};
 ghost use Rattle.hc_records.specs.Laws.{IsPackable, cuts_from};
-ghost use Rattle.hc_records.specs.Packing.{opening, packed};
+ghost use Rattle.hc_records.specs.Packing.{empty_front, packed};
 ghost use Rattle.hc_records.specs.declared.limits.TheConstants.{MOST_DATAGRAMS};
 ghost use Rattle.hc_cuts.specs.Firsts.{IsOverLimit, first_keys};
 
@@ -48,7 +48,7 @@ fn add_cuts(
 pub fn fold_cuts(list: &[(Key, u16)]) -> Result<ArrayVec<Key, 16>, TooManyDatagrams>
     requires { All IsPackable list.now }
     ensures keys { IfOk result (λ keys. keys.items ≡ first_keys list.now) }
-    ensures few { OnOk result (datagram_count (packed opening list.now) ≤ MOST_DATAGRAMS) }
+    ensures few { OnOk result (datagram_count (packed empty_front list.now) ≤ MOST_DATAGRAMS) }
     ensures refused { OnErr result (IsOverLimit list.now) }
 {
     let mut keys = ArrayVec::new();

@@ -1,6 +1,6 @@
 //! The packing of a task's list, an area at a time (this project's profile). The plain cut and the places are computed by it.
 ghost use Rattle.std.specs.Prelude.{◌≡◌, ◌+◌, ◌<◌, ◌≤◌};
-ghost use Rattle.hc_records.specs.Packing.{opening};
+ghost use Rattle.hc_records.specs.Packing.{empty_front};
 ghost use Rattle.hc_records.specs.declared.limits.TheConstants.{MOST_AREA_BITS};
 
 use hc_bitsum::borders::{byte_border, is_turning};
@@ -104,13 +104,13 @@ impl Placed {
 
 impl Front {
     ghost use Rattle.std.specs.Prelude.{◌≡◌, ◌+◌, ◌<◌, ◌≤◌};
-    ghost use Rattle.hc_records.specs.Packing.{beginning, fits, opening, placed_at};
+    ghost use Rattle.hc_records.specs.Packing.{beginning, empty_front, fits, placed_at};
     ghost use Rattle.hc_cuts.specs.Walk.{blank_datagram, filled_datagram};
     ghost use Rattle.hc_records.specs.declared.limits.TheConstants.{MOST_AREA_BITS};
 
     /// Returns the empty first datagram.
     pub fn opening() -> Front
-        ensures { result ≡ opening }
+        ensures { result ≡ empty_front }
     {
         Front::blank(0)
     }

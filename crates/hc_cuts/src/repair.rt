@@ -3,7 +3,7 @@
 ghost use Rattle.std.specs.Prelude.{◌≡◌, ◌+◌, ◌*◌, ◌<◌, ◌≤◌, ◌∷◌, ◌++◌, [], IfOk, OnErr, OnOk, drop, if◌then◌else◌};
 ghost use Rattle.hc_records.specs.Boundaries.{boundaries};
 ghost use Rattle.hc_records.specs.Image.{datagram_count};
-ghost use Rattle.hc_records.specs.Packing.{opening, packed};
+ghost use Rattle.hc_records.specs.Packing.{empty_front, packed};
 ghost use Rattle.hc_records.specs.declared.keys.TheConstants.Key.{END};
 ghost use Rattle.hc_records.specs.declared.limits.TheConstants.{MOST_DATAGRAMS};
 ghost use Rattle.hc_bitsum.specs.Tree.{CanBegin, HoldsTaskList};
@@ -78,7 +78,7 @@ pub(crate) fn repaired_starts<L: Ledger>(
     requires holds { HoldsTaskList task.now }
     requires were { AreOfBefore old.now hulls.now task.now.list }
     ensures starts { IfOk result (λ found. found.0.items ++ END ∷ [] ≡ boundaries task.now.list) }
-    ensures few { OnOk result (datagram_count (packed opening task.now.list) ≤ MOST_DATAGRAMS) }
+    ensures few { OnOk result (datagram_count (packed empty_front task.now.list) ≤ MOST_DATAGRAMS) }
     ensures count { IfOk result (λ found. found.1 ≡ unsettled_between hulls.now old.now found.0.items) }
     ensures refused { OnErr result (IsOverLimit task.now.list) }
     ensures least { IfOk result (λ found. steps.old + found.1 ≤ steps.new) }

@@ -47,7 +47,7 @@ impl LineCuts {
     ghost use Rattle.std.specs.Prelude.{◌≡◌, ◌≢◌, ◌↔◌, ℕ, ◌+◌, ◌*◌, ◌≤◌, List, [], IfErr, IfOk, IsTrue, None, OnErr, OnOk, Some, length, map, option_map, replicate};
     ghost use Rattle.hc_records.specs.Boundaries.{width_in};
     ghost use Rattle.hc_records.specs.Image.{inside};
-    ghost use Rattle.hc_records.specs.Packing.{opening, packed};
+    ghost use Rattle.hc_records.specs.Packing.{empty_front, packed};
     ghost use Rattle.hc_records.specs.declared.faults.EditFault.TheVariants.{Memory, TooManyDatagrams};
     ghost use Rattle.hc_records.specs.declared.limits.TheConstants.{MOST_DATAGRAMS, MOST_SLAVES};
     ghost use Rattle.hc_bitsum.specs.Tree.{HasRoom};
@@ -180,14 +180,14 @@ impl LineCuts {
         task: Task,
         number: u16,
     ) -> Result<Vec<Placed>, AllocError>
-        ensures { IfOk result (λ places. (line : AreaLine) → self.now ≡ line_cuts line → places.items ≡ inside number (packed opening (list_by task line))) }
+        ensures { IfOk result (λ places. (line : AreaLine) → self.now ≡ line_cuts line → places.items ≡ inside number (packed empty_front (list_by task line))) }
     {
         self.tasks[task.as_index()].datagram(alloc, number)
     }
 
     /// Returns the areas of a task with their places, in key order. `AllocError` if an allocation fails.
     pub fn places(&self, alloc: Global, task: Task) -> Result<Vec<Placed>, AllocError>
-        ensures { IfOk result (λ places. (line : AreaLine) → self.now ≡ line_cuts line → places.items ≡ packed opening (list_by task line)) }
+        ensures { IfOk result (λ places. (line : AreaLine) → self.now ≡ line_cuts line → places.items ≡ packed empty_front (list_by task line)) }
     {
         self.tasks[task.as_index()].places(alloc)
     }

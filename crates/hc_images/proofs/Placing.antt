@@ -95,7 +95,7 @@ has-row table variable place ascend is = elim (by-number table.variables variabl
 
 new-place : (change : Change) (table : Table) (i : ℕ) (row : ChangedRow) → RowsAscend table.variables → ChangesAscend change.rows → slice_get change.rows i ≡ Some row → place_in (swapped change table) row.0 ≡ row.1
 new-place change table i row ascend order there =
-    let said : said_of change row.0 ≡ Some row.1 = ap (option_map (λ (c : ChangedRow). c.1)) (found-at change.rows i row order there) in
+    let said : said_of change.rows row.0 ≡ Some row.1 = ap (option_map (λ (c : ChangedRow). c.1)) (found-at change.rows i row order there) in
     swaps-move change table ascend row.0 ∙ ap (λ s. unwrap_or s (place_in table row.0)) said
 
 pub same-place : (change : Change) (table : Table) (variable : ℕ) → RowsAscend table.variables → HasNone change.rows variable → place_in (swapped change table) variable ≡ place_in table variable

@@ -11,7 +11,7 @@ use Rattle.std.proofs.Math.Seq.{get_or-append_right, take-length}
 use Rattle.hc_bits.specs.Bits.{AreBytes, bit_of}
 use Rattle.hc_bits.proofs.lemmas.Places.{bit_of-append_left, bit_of-append_right, bit_of-take, bit_of-zeros}
 use Rattle.hc_records.specs.declared.limits.TheConstants.{MOST_DATAGRAMS, TASKS}
-use Rattle.hc_places.specs.Swap.{Change, ChangedTask, ChangesAscend, swapped, table_said_of}
+use Rattle.hc_places.specs.Swap.{Change, ChangedTask, ChangesAscend, swapped, said_of}
 use Rattle.hc_places.specs.Table.{IsTable, Table, TaskTable}
 use Rattle.hc_places.proofs.lemmas.Swaps.{swaps-replace}
 use Rattle.hc_images.specs.Packed.{Bytes, HasSizes, length_in, slot_bytes}
@@ -82,7 +82,7 @@ replaced_by said old new own there is = is ∙ ap (option_map (λ (o : TaskTable
 blank : TaskTable
 blank = record { datagrams = []; outputs = 0; inputs = 0 }
 
-new_task : (change : Change) (table : Table) (task : ℕ) (said : Option TaskTable) → IsTable table → ChangesAscend change.tasks → task < TASKS → table_said_of change task ≡ said
+new_task : (change : Change) (table : Table) (task : ℕ) (said : Option TaskTable) → IsTable table → ChangesAscend change.tasks → task < TASKS → said_of change.tasks task ≡ said
     → (own : TaskTable) × (slice_get table.tasks task ≡ Some own) × (slice_get (swapped change table).tasks task ≡ Some (unwrap_or said own))
 new_task change table task said is ascend low answer_given =
     let own = get_or table.tasks task blank in
@@ -100,7 +100,7 @@ said_length : (change : Change) (table : Table) (old new : Bytes) (task d : ℕ)
     → ResizesEach (length change.tasks) change.tasks old new → HasNumber change.tasks task → GetsLength change table old new task d
 said_length change table old new task d is ascend low few each has =
     let row = has.row in
-    let answer_given : table_said_of change row.0 ≡ Some row.1 = ap (option_map (λ (c : ChangedTask). c.1)) (found-at change.tasks has.index row ascend has.there) in
+    let answer_given : said_of change.tasks row.0 ≡ Some row.1 = ap (option_map (λ (c : ChangedTask). c.1)) (found-at change.tasks has.index row ascend has.there) in
     let there = new_task change table row.0 (Some row.1) is ascend (subst (λ (t : ℕ). t < TASKS) (sym has.is) low) answer_given in
     let size = by_task (Some row.1) (swapped change table) row.0 d there.2 in
     search (rules, slice_get_within)
@@ -108,7 +108,7 @@ said_length change table old new task d is ascend low few each has =
 unchanged_length : (change : Change) (table : Table) (old new : Bytes) (task d : ℕ) → IsTable table → ChangesAscend change.tasks → task < TASKS → d < MOST_DATAGRAMS → HasSizes table old
     → ResizesEach (length change.tasks) change.tasks old new → HasNone change.tasks task → GetsLength change table old new task d
 unchanged_length change table old new task d is ascend low few sizes each none =
-    let answer_given : table_said_of change task ≡ None = ap (option_map (λ (c : ChangedTask). c.1)) (none-found change.tasks task none) in
+    let answer_given : said_of change.tasks task ≡ None = ap (option_map (λ (c : ChangedTask). c.1)) (none-found change.tasks task none) in
     let there = new_task change table task None is ascend low answer_given in
     let size : length (slot_bytes old task d) ≡ length_in (swapped change table) task d = search (rules, by_task) in
     search (rules, resized-same)

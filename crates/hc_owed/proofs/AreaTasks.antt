@@ -21,7 +21,7 @@ use Rattle.hc_records.specs.Keys.{same_dir, same_key}
 use Rattle.hc_records.specs.Laws.{IsPackable}
 use Rattle.hc_records.specs.Limits.{IsAreaInside, IsSlaveInside}
 use Rattle.hc_records.specs.Line.{Member, State, groups_of, is_at, line}
-use Rattle.hc_records.specs.Packing.{Placed, opening, packed}
+use Rattle.hc_records.specs.Packing.{Placed, empty_front, packed}
 use Rattle.hc_records.specs.Project.{lowest_fault}
 use Rattle.hc_records.specs.TaskList.{Keyed, Listed, belongs, keyed, slave_areas, task_areas, task_list}
 use Rattle.hc_records.proofs.lemmas.Addresses.{uncrowded-few}
@@ -107,7 +107,7 @@ is-found line member index area has own some none =
     let places = task_places area.task line in
     let test = λ (p : Placed). same_key p.key key in
     let listed_so : Contains (map area_of places) (key, width area) =
-    subst (λ (list : List Keyed). Contains list (key, width area)) (sym (packed-areas opening (task_list area.task line))) (in-list line member index area has own some) in
+    subst (λ (list : List Keyed). Contains list (key, width area)) (sym (packed-areas empty_front (task_list area.task line))) (in-list line member index area has own some) in
     let placed = contains-unmapped area_of places (key, width area) listed_so in
     let missed : same_key placed.0.key key ≡ false =
     All-contains (λ (p : Placed). test p ≡ false) places placed.0 (found-none test places (none-found (mapping_at area.task) (find test places) none)) placed.1 in
@@ -149,7 +149,7 @@ place-widths : (line : List Member) (member : Member) (index : ℕ) (area : Area
 place-widths line member index area task ranks has own =
     let list = task_list task line in
     let named = λ (k : Keyed). (k.0 ≡ key_of member index area → k.1 ≡ width area) in
-    All-unmap named area_of (packed opening list) (subst (All named) (sym (packed-areas opening list)) (list-widths line member index area task ranks has own))
+    All-unmap named area_of (packed empty_front list) (subst (All named) (sym (packed-areas empty_front list)) (list-widths line member index area task ranks has own))
 
 -- a place that has bits, within one of a task's 16 datagrams
 record IsGoodPlace (placed : Placed) : Type 0 where
@@ -161,15 +161,15 @@ good-places : (state : State) (task : ℕ) → lowest_fault (groups_of state.gro
 good-places state task project uncrowded low k d within =
     let members = line state in
     let list = task_list task members in
-    let places = packed opening list in
+    let places = packed empty_front list in
     let packable : All IsPackable list = project-packable state task project in
     let count = uncrowded-few members task uncrowded low in
     let after_it : (slice_index_or places k d).datagram + 1 ≤ datagram_count places = greatest-all (λ (placed : Placed). placed.datagram + 1) 0 places k d within in
     let own : IsPackable (area_of (slice_index_or places k d)) =
-    All-unmap IsPackable area_of places (subst (All IsPackable) (sym (packed-areas opening list)) packable) k d within in
+    All-unmap IsPackable area_of places (subst (All IsPackable) (sym (packed-areas empty_front list)) packable) k d within in
     record {
       some = own.some;
-      inside = packed-inside opening list packable k d within;
+      inside = packed-inside empty_front list packable k d within;
       early = omega (arith, after_it, count);
     }
 

@@ -12,7 +12,7 @@ use Rattle.hc_records.specs.Edits.{over_limit_task}
 use Rattle.hc_records.specs.Line.{groups_of, line_from}
 use Rattle.hc_records.specs.Project.{lowest_fault}
 use Rattle.hc_records.specs.TaskList.{Keyed, Listed, keyed, task_areas, task_list}
-use Rattle.hc_records.specs.Packing.{Placed, opening, packed}
+use Rattle.hc_records.specs.Packing.{Placed, empty_front, packed}
 use Rattle.hc_records.specs.Image.{area_variables, datagram_count, task_places, task_variables}
 use Rattle.hc_records.proofs.lemmas.Greatest.{greatest-all}
 use Rattle.hc_records.proofs.lemmas.Addresses.{uncrowded-few}
@@ -101,14 +101,14 @@ pub record IsTask (groups : List Declared) (task : ℕ) (places : List Placed) :
   pub table : table_at task places ≡ task_table (line_from 1 groups) task
 
 pub unchanged-task : (groups : List Declared) (task : ℕ) (places : List Placed) → task < 8 → lowest_fault (groups_of groups) ≡ None → over_limit_task (line_from 1 groups) ≡ None
-    → places ≡ packed opening (list_by task (areas_by_rank groups)) → IsTask groups task places
+    → places ≡ packed empty_front (list_by task (areas_by_rank groups)) → IsTask groups task places
 unchanged-task groups task places low none fits is =
     let line = line_from 1 groups in
     let slaves = areas_by_rank groups in
     let configurable = project-configurable groups none in
-    let is_placed : places ≡ task_places task line = is ∙ ap (packed opening) (sym (task-listed task groups)) in
+    let is_placed : places ≡ task_places task line = is ∙ ap (packed empty_front) (sym (task-listed task groups)) in
     let few = uncrowded-few line task fits low in
-    let keys = packed-areas opening (task_list task line) in
+    let keys = packed-areas empty_front (task_list task line) in
     let names = keys-name groups task in
     record {
       is_placed = is_placed;

@@ -10,7 +10,7 @@ use Rattle.hc_records.specs.declared.edit.Edit.{Edit}
 use Rattle.hc_records.specs.Image.{VariablePlace}
 use Rattle.hc_records.proofs.lemmas.Choices.{is_other}
 use Rattle.hc_places.specs.Table.{IsTable, Table, TaskTable}
-use Rattle.hc_places.specs.Swap.{Change, ChangedRow, ChangedTask, ChangesAscend, IsNewTask, LeadsAsSaid, SaysWhatDiffers, changed_variables, merged, tasks_replaced, same_found, swapped, table_among, AreNewTasks}
+use Rattle.hc_places.specs.Swap.{Change, ChangedRow, ChangedTask, ChangesAscend, IsDifference, LeadsAsSaid, SaysWhatDiffers, changed_variables, merged, tasks_replaced, same_found, swapped, said_of, AreDifferences}
 use Rattle.hc_places.proofs.Changed.{different-among, different-once, numbers, numbers-once, place_of}
 use Rattle.hc_places.proofs.Members.{among, as-long}
 use Rattle.hc_places.proofs.Swapped.{merged-rows-ascend, place-merged, tables-answer_given}
@@ -42,7 +42,7 @@ get-set-by here (y ∷ ys) (suc i) (suc j) x is = get-set-by here ys i j x (next
 get-set : {X : Type 0} (xs : List X) (i j : ℕ) (x : X) → slice_get (set xs i x) j ≡ cond (i == j) (option_map (λ _. x) (slice_get xs j)) (slice_get xs j)
 get-set xs i j x = get-set-by (i == j) xs i j x refl
 
-none-said : (task : ℕ) (others : List ChangedTask) → AreAbove task others → table_among others task ≡ None
+none-said : (task : ℕ) (others : List ChangedTask) → AreAbove task others → said_of others task ≡ None
 none-said task [] above = refl
 none-said task (c ∷ others) above =
     grind (arith, is_other, All-head, All-tail, none-said task others (All-tail (λ (c : ChangedTask). task < c.0) c others above))
@@ -55,11 +55,11 @@ said-by : (here : Bool) (c : ChangedTask) (found : Option ChangedTask) (old : Op
 said-by here c found old none = grind arith
 
 pub task-replaced : (changed : List ChangedTask) (tasks : List TaskTable) (task : ℕ) → ChangesAscend changed
-    → slice_get (tasks_replaced changed tasks) task ≡ option_map (λ old. unwrap_or (table_among changed task) old) (slice_get tasks task)
+    → slice_get (tasks_replaced changed tasks) task ≡ option_map (λ old. unwrap_or (said_of changed task) old) (slice_get tasks task)
 task-replaced [] tasks task ascends = unchanged-as-is (slice_get tasks task)
 task-replaced (c ∷ others) tasks task ascends =
     task-replaced others (set tasks c.0 c.1) task (ascends-rest c others ascends)
-    ∙ ap (option_map (λ old. unwrap_or (table_among others task) old)) (get-set tasks c.0 task c.1)
+    ∙ ap (option_map (λ old. unwrap_or (said_of others task) old)) (get-set tasks c.0 task c.1)
     ∙ said-by (c.0 == task) c (find (λ (c : ChangedTask). c.0 == task) others) (slice_get tasks task)
     (λ here. none-said task others (rw (← (eqb-true c.0 task here)) (ascends-above c others ascends)))
 
@@ -72,7 +72,7 @@ as-many (x ∷ xs) [] i y same is = cc
 as-many (x ∷ xs) (z ∷ zs) zero y same is = refl
 as-many (x ∷ xs) (z ∷ zs) (suc i) y same is = as-many xs zs i y (omega arith) is
 
-new-by : (olds updates : List TaskTable) (task : ℕ) (answer_given : Option TaskTable) → length olds ≡ length updates → IsNewTask (slice_get olds task) (slice_get updates task) answer_given
+new-by : (olds updates : List TaskTable) (task : ℕ) (answer_given : Option TaskTable) → length olds ≡ length updates → IsDifference (slice_get olds task) (slice_get updates task) answer_given
     → option_map (λ old. unwrap_or answer_given old) (slice_get olds task) ≡ slice_get updates task
 new-by olds updates task None same is = sym (unchanged-as-is (slice_get olds task)) ∙ is
 new-by olds updates task (Some table) same is = as-many olds updates task table same is.0 ∙ sym is.0
@@ -89,7 +89,7 @@ same-elements (x ∷ xs) (y ∷ ys) same =
 tasks-lead : (old new : Table) (change : Change) → IsTable old → IsTable new → ChangesAscend change.tasks → SaysWhatDiffers old new change → (swapped change old).tasks ≡ new.tasks
 tasks-lead old new change before after ascends says =
     same-elements (tasks_replaced change.tasks old.tasks) new.tasks
-    (λ task. task-replaced change.tasks old.tasks task ascends ∙ new-by old.tasks new.tasks task (table_among change.tasks task) (before.eight ∙ sym after.eight) (says.tasks task))
+    (λ task. task-replaced change.tasks old.tasks task ascends ∙ new-by old.tasks new.tasks task (said_of change.tasks task) (before.eight ∙ sym after.eight) (says.tasks task))
 
 -- so is a variable's place
 
@@ -144,7 +144,7 @@ pub leads-said : (edit : Edit) (tasks unchanged : List ChangedTask) (given rows 
     → LeadsAsSaid (change_of tasks given) (record { edit = edit; change = change_of unchanged rows })
 leads-said edit tasks unchanged given rows same places first second old new before after says =
     let own : SaysWhatDiffers old new (change_of unchanged rows) = record {
-      tasks = subst (AreNewTasks old.tasks new.tasks) (sym same) says.tasks;
+      tasks = subst (AreDifferences old.tasks new.tasks) (sym same) says.tasks;
       places = λ variable. ap (option_map (λ (c : ChangedRow). c.1)) (places variable) ∙ says.places variable;
     } in
     let ascends : ChangesAscend unchanged = subst ChangesAscend (sym same) first in

@@ -7,7 +7,7 @@ use Rattle.hc_records.specs.declared.records.Declared.{Declared}
 use Rattle.hc_records.specs.Edits.{over_limit_task}
 use Rattle.hc_records.specs.Image.{task_variables, tasks}
 use Rattle.hc_records.specs.Line.{Member, groups_of, line_from}
-use Rattle.hc_records.specs.Packing.{Placed, opening, packed}
+use Rattle.hc_records.specs.Packing.{Placed, empty_front, packed}
 use Rattle.hc_records.specs.Project.{lowest_fault}
 use Rattle.hc_cuts.specs.Starts.{TaskCuts}
 use Rattle.hc_cuts.specs.Areas.{areas_by_rank, list_by}
@@ -36,7 +36,7 @@ are-opened groups slaves again cuts none is same accepted unchanged = record {
 }
 
 pub opened-task : (slaves : List (List Area)) (unchanged : List TaskCuts) (opened : AreOpened slaves unchanged) (task : ℕ) (places : List Placed) → task < 8
-    → ((line : List (List Area)) → unchanged ≡ line_cuts line → places ≡ packed opening (list_by task line)) → IsTask opened.groups task places
+    → ((line : List (List Area)) → unchanged ≡ line_cuts line → places ≡ packed empty_front (list_by task line)) → IsTask opened.groups task places
 opened-task slaves unchanged opened task places low answer_given =
     unchanged-task opened.groups task places low opened.project (same-over_limit opened.groups slaves opened.areas ∙ opened.accepted)
     (answer_given (areas_by_rank opened.groups) (opened.of_areas ∙ ap (λ (s : List (List Area)). line_cuts s) opened.areas))

@@ -3,7 +3,7 @@ use Rattle.std.proofs.Common.{◌≡◌, ℕ, ◌≤◌, List, refl, arith}
 use Rattle.hc_records.specs.declared.limits.TheConstants.{MOST_DATAGRAMS}
 use Rattle.hc_records.specs.Line.{Member}
 use Rattle.hc_records.specs.TaskList.{task_list}
-use Rattle.hc_records.specs.Packing.{opening}
+use Rattle.hc_records.specs.Packing.{empty_front}
 use Rattle.hc_records.specs.Image.{datagram_count, task_places}
 use Rattle.hc_records.proofs.lemmas.Inside.{packed-inside}
 use Rattle.hc_records.proofs.lemmas.Lengths.{length-sendable}
@@ -20,7 +20,7 @@ use Rattle.hc_places.proofs.lemmas.Ranks.{expected-low}
 pub places-sendable : (task : ℕ) (line : List Member) → IsConfigurable line → datagram_count (task_places task line) ≤ MOST_DATAGRAMS → AreSendable (task_places task line)
 places-sendable task line configurable few = record {
   few = few;
-  inside = packed-inside opening (task_list task line) (configurable.packable task);
+  inside = packed-inside empty_front (task_list task line) (configurable.packable task);
   lengths = λ d within. length-sendable (task_list task line) d (configurable.packable task) within;
   counted = λ d.
       let same = configurable.counted task d in

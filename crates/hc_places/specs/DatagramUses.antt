@@ -1,4 +1,4 @@
--- What the datagrams of a task hold, and the table of a task put together from that.
+-- The table of a task, the same as `task_table`, put together datagram by datagram, and what each datagram adds to it.
 use Rattle.std.specs.Prelude.{ℕ, zero, suc, ◌+◌, ◌-◌, ◌/◌, ◌≤◌, min, List, [], ◌∷◌, ◌++◌, None, find, length, map, slice_get}
 use Rattle.std.specs.Option.{option_map_or}
 use Rattle.hc_records.specs.declared.keys.Key.{Key}

@@ -96,35 +96,23 @@ abbrev pub changed_variables : Table → Table → List ℕ
 changed_variables old new =
     filter (λ variable. not (same_found (place_in old variable) (place_in new variable))) (variables_of_both old new)
 
--- the new place of a variable, or that it has none, where that isn't its old one
-abbrev pub new_place : Option VariablePlace → Option VariablePlace → Option (Option VariablePlace)
-new_place old new = if same_found old new then None else Some new
+-- the entry of a list for a number, if the list names the number
+abbrev pub said_of : {X : Type 0} → List (ℕ × X) → ℕ → Option X
+said_of list number = option_map (λ entry. entry.1) (find (λ entry. entry.0 == number) list)
 
--- what a change says of a variable: its new place or none, and nothing where it isn't among the change's rows
-abbrev pub said_of : Change → ℕ → Option (Option VariablePlace)
-said_of change variable = option_map (λ changed. changed.1) (find (λ changed. changed.0 == variable) change.rows)
+-- the new table that a change names for a task: none if the old and new tables are equal, else the new one
+abbrev pub IsDifference : Option TaskTable → Option TaskTable → Option TaskTable → Type 0
+IsDifference old new None = old ≡ new
+IsDifference old new (Some said) = (new ≡ Some said) × (old ≢ new)
 
--- the new table of a task among these, if it has one
-abbrev pub table_among : List ChangedTask → ℕ → Option TaskTable
-table_among changed task = option_map (λ found. found.1) (find (λ found. found.0 == task) changed)
+-- the tasks whose old and new tables differ, each with its new table
+abbrev pub AreDifferences : List TaskTable → List TaskTable → List ChangedTask → Type 0
+AreDifferences old new changed = (task : ℕ) → IsDifference (slice_get old task) (slice_get new task) (said_of changed task)
 
--- what a change says of a task: its new table, and nothing where it isn't among the change's tasks
-abbrev pub table_said_of : Change → ℕ → Option TaskTable
-table_said_of change task = table_among change.tasks task
-
--- a task that isn't mentioned is as it was; one with a new table has that table, and hadn't
-abbrev pub IsNewTask : Option TaskTable → Option TaskTable → Option TaskTable → Type 0
-IsNewTask old new None = old ≡ new
-IsNewTask old new (Some said) = (new ≡ Some said) × (old ≢ new)
-
--- these are the tasks whose tables differ between old and new ones, each with its new table
-abbrev pub AreNewTasks : List TaskTable → List TaskTable → List ChangedTask → Type 0
-AreNewTasks old new changed = (task : ℕ) → IsNewTask (slice_get old task) (slice_get new task) (table_among changed task)
-
--- between two tables a change says of each task whose table differs its new table, of each variable whose place differs its new place or none, and nothing of any other
+-- a change names each task whose table differs with its new table, each variable whose place differs with its new place or none, and no other
 pub record SaysWhatDiffers (old new : Table) (change : Change) : Type 0 where
-  pub tasks : AreNewTasks old.tasks new.tasks change.tasks
-  pub places : (variable : ℕ) → said_of change variable ≡ new_place (place_in old variable) (place_in new variable)
+  pub tasks : AreDifferences old.tasks new.tasks change.tasks
+  pub places : (variable : ℕ) → said_of change.rows variable ≡ (if same_found (place_in old variable) (place_in new variable) then None else Some (place_in new variable))
 
 -- no variable has two rows
 abbrev pub AreOnce : List ChangedRow → Type 0
@@ -159,7 +147,7 @@ ChangedVariablesOccurOnce =
 abbrev pub SwapsMoveTheirVariables : Type 0
 SwapsMoveTheirVariables =
     (change : Change) (table : Table) → RowsAscend table.variables → (variable : ℕ)
-    → place_in (swapped change table) variable ≡ unwrap_or (said_of change variable) (place_in table variable)
+    → place_in (swapped change table) variable ≡ unwrap_or (said_of change.rows variable) (place_in table variable)
 
 -- its rows ascend again
 abbrev pub SwapsKeepTheOrder : Type 0
@@ -169,7 +157,7 @@ SwapsKeepTheOrder = (change : Change) (table : Table) → RowsAscend table.varia
 abbrev pub SwapsReplaceTheirTasks : Type 0
 SwapsReplaceTheirTasks =
     (change : Change) (table : Table) → ChangesAscend change.tasks → (task : ℕ)
-    → slice_get (swapped change table).tasks task ≡ option_map (λ old. unwrap_or (table_said_of change task) old) (slice_get table.tasks task)
+    → slice_get (swapped change table).tasks task ≡ option_map (λ old. unwrap_or (said_of change.tasks task) old) (slice_get table.tasks task)
 
 -- tables whose rows ascend are distinguished by their tasks and by what they answer for variables
 abbrev pub PlacesSayTables : Type 0

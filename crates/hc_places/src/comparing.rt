@@ -8,7 +8,7 @@ use std::alloc::{AllocError, Global};
 impl Places {
     ghost use Rattle.std.specs.Prelude.{◌≡◌, IfOk, length};
     ghost use Rattle.hc_records.specs.declared.limits.TheConstants.{TASKS};
-    ghost use Rattle.hc_places.specs.Swap.{ChangesAscend, AreNewTasks};
+    ghost use Rattle.hc_places.specs.Swap.{ChangesAscend, AreDifferences};
 
     /// The tasks whose tables differ from these eight new ones, with their new ones, in the order of their
     /// numbers. `AllocError` where a growth was refused.
@@ -18,7 +18,7 @@ impl Places {
         new: &[TaskTable],
     ) -> Result<Vec<ChangedTask>, AllocError>
         requires { length new.now ≡ TASKS }
-        ensures says { IfOk result (λ tasks. AreNewTasks self.now.tasks new.now tasks.items) }
+        ensures says { IfOk result (λ tasks. AreDifferences self.now.tasks new.now tasks.items) }
         ensures ascends { IfOk result (λ tasks. ChangesAscend tasks.items) }
     {
         let old = self.tasks.as_slice();

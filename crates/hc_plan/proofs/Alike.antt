@@ -22,7 +22,7 @@ use Rattle.hc_groups.specs.Changes.{changed_groups}
 use Rattle.hc_records.specs.Image.{area_variables, datagram_count, task_places, task_variables, tasks}
 use Rattle.hc_records.specs.Line.{Member, groups_of, is_at, line_from}
 use Rattle.hc_records.specs.Lists.{changed_at}
-use Rattle.hc_records.specs.Packing.{Placed, opening, packed}
+use Rattle.hc_records.specs.Packing.{Placed, empty_front, packed}
 use Rattle.hc_records.specs.Project.{lowest_fault}
 use Rattle.hc_records.specs.TaskList.{Keyed, Listed, keyed, task_areas, task_list}
 use Rattle.hc_records.proofs.lemmas.Lists.{All-unmap, AllPairs-from_once, AllPairs-unmap, AllPairs-weaker}
@@ -203,15 +203,15 @@ moved-alike groups station index to member project uncrowded project' found bare
     let lists : (task : ℕ) → task_list task new ≡ task_list task old = λ task. ap (map keyed) (areas task) in
     let tables = map-same (task_table new) (task_table old) (λ task. same-table moved groups task project' project (lists task)) tasks in
     let rows = joined-same (task_variables new) (task_variables old)
-    (λ task. ap (λ (listed : List Listed). flat_map (area_variables task) (zip listed (packed opening (map keyed listed)))) (areas task)) tasks in
+    (λ task. ap (λ (listed : List Listed). flat_map (area_variables task) (zip listed (packed empty_front (map keyed listed)))) (areas task)) tasks in
     let crowds = find-same (λ task. nat_lt MOST_DATAGRAMS (datagram_count (task_places task new))) (λ task. nat_lt MOST_DATAGRAMS (datagram_count (task_places task old)))
-    (λ task. ap (λ (list : List Keyed). nat_lt MOST_DATAGRAMS (datagram_count (packed opening list))) (lists task)) tasks in
+    (λ task. ap (λ (list : List Keyed). nat_lt MOST_DATAGRAMS (datagram_count (packed empty_front list))) (lists task)) tasks in
     let spans = λ (task : ℕ). unsettled_spans (task_list task old) (task_list task new) in
     let recut_none = ap (sum_by spans) (filter-same (is_touched_task old new) (is_touched_task old old)
     (λ task. ap (λ (list : List Keyed). nat_lt 0 (length (touched (task_list task old) list))) (lists task)) tasks)
     ∙ sum-same spans (λ task. unsettled_spans (task_list task old) (task_list task old)) (λ task. ap (unsettled_spans (task_list task old)) (lists task)) (filter (is_touched_task old old) tasks)
     ∙ same-recut old in
-    let layout = map-same (λ task. task_places task new) (λ task. task_places task old) (λ task. ap (packed opening) (lists task)) tasks in
+    let layout = map-same (λ task. task_places task new) (λ task. task_places task old) (λ task. ap (packed empty_front) (lists task)) tasks in
     record {
       alike = record {
         table = ap (λ (ts : List TaskTable). record { tasks = ts; variables = by_number (flat_map (task_variables new) tasks) }) tables

@@ -46,7 +46,7 @@ refused old next edit fault false is says same =
 
 left-by : (old next : State) (edit : Edit) (answer : Answer) → IsAnswer old edit answer next → next ≡ after_one old edit (wants_memory answer)
 left-by old next edit (Ok report) is = sym (ap (λ (r : Result State EditFault). result_unwrap_or r old) is.0)
-left-by old next edit (Err fault) is = refused old next edit fault (wants_memory (Err fault)) refl is.0 is.2
+left-by old next edit (Err fault) is = refused old next edit fault (wants_memory (Err fault)) refl is.lowest is.stays
 
 -- whether an edit is among those that were carried_out
 taken : (pair : Edit × Answer) (pairs : List (Edit × Answer)) (wants : Bool) → wants_memory pair.1 ≡ wants
@@ -80,7 +80,7 @@ pub answer-of : (old new : State) (edit : Edit) (answer : Answer)
     → OnOk answer (edited old edit ≡ Ok new) → IfOk answer (ReportsEdit old edit new) → IfErr answer (λ fault. fault ≢ Memory → edited old edit ≡ Err fault)
     → IfSome (own_fault old.groups edit) (λ fault. answer ≡ Err fault) → OnErr answer (new ≡ old) → IsAnswer old edit answer new
 answer-of old new edit (Ok report) makes shows says own same = (makes, shows)
-answer-of old new edit (Err fault) makes shows says own same = (says, named (own_fault old.groups edit) fault own, same)
+answer-of old new edit (Err fault) makes shows says own same = record { stays = same; own = named (own_fault old.groups edit) fault own; lowest = says }
 
 -- all edits are answered
 pub goes-all : (old new : State) (edits : List Edit) (index : ℕ) (answers : List Answer) → length edits ≤ index

@@ -31,7 +31,7 @@ use Rattle.hc_records.specs.Image.{VariablePlace}
 use Rattle.hc_records.proofs.lemmas.Spans.{filter-drops}
 use Rattle.hc_registers.specs.Ranked.{RankedBlock, moved_ranked}
 use Rattle.hc_registers.proofs.lemmas.RanksMoved.{ranked-are-moved}
-use Rattle.hc_places.specs.Swap.{LeadsAsSaid, SaysWhatDiffers, changed_variables, new_place}
+use Rattle.hc_places.specs.Swap.{LeadsAsSaid, SaysWhatDiffers, changed_variables, same_found}
 use Rattle.hc_places.specs.Table.{Table, place_in, table_of}
 use Rattle.hc_places.proofs.lemmas.Same.{found-same}
 use Rattle.hc_changes.proofs.lemmas.Moved.{had}
@@ -64,7 +64,7 @@ says-nothing table = record {
   places = λ variable. nothing (place_in table variable);
 }
   where
-    nothing : (place : Option VariablePlace) → None ≡ new_place place place
+    nothing : (place : Option VariablePlace) → None ≡ (if same_found place place then None else Some place)
     nothing place = rw (found-same place place refl) refl
 
 -- what a report of a line that is configured alike says

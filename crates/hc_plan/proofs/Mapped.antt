@@ -10,7 +10,7 @@ use Rattle.hc_records.specs.Keys.{same_key}
 use Rattle.hc_records.specs.Laws.{IsPackable}
 use Rattle.hc_records.specs.Limits.{IsAreaInside, IsSlaveInside}
 use Rattle.hc_records.specs.Line.{Member, groups_of, line_from}
-use Rattle.hc_records.specs.Packing.{Placed, opening}
+use Rattle.hc_records.specs.Packing.{Placed, empty_front}
 use Rattle.hc_records.specs.Project.{lowest_fault}
 use Rattle.hc_records.specs.TaskList.{Keyed, task_list}
 use Rattle.hc_records.proofs.lemmas.Lists.{All-unmap}
@@ -38,7 +38,7 @@ placed-some groups none found placed is =
     let stood = found-among (λ (p : Placed). same_key p.key (line_area_key found)) places placed is in
     let packable : IsPackable (area_of placed) =
     All-contains (λ (p : Placed). IsPackable (area_of p)) places placed
-    (All-unmap IsPackable area_of places (subst (λ (l : List Keyed). All IsPackable l) (sym (packed-areas opening list)) (project-packable (record { groups = groups; epoch = 0 }) task none))) stood.among in
+    (All-unmap IsPackable area_of places (subst (λ (l : List Keyed). All IsPackable l) (sym (packed-areas empty_front list)) (project-packable (record { groups = groups; epoch = 0 }) task none))) stood.among in
     packable.some
 
 pub early : (groups : List Declared) → lowest_fault (groups_of groups) ≡ None → (found : LineArea) → IsAreaOf (line_from 1 groups) found → found.index < 8

@@ -17,7 +17,7 @@ use Rattle.hc_cuts.specs.LineKeeping.{Before, IsKnownBefore}
 use Rattle.hc_cuts.specs.Starts.{TaskCuts}
 use Rattle.hc_cuts.specs.TaskCuts.{line_cuts}
 use Rattle.hc_places.specs.Layout.{layout_of}
-use Rattle.hc_places.specs.Swap.{AreNewTasks, AreOnce, ChangedRow, ChangedTask, Leads, LeadsAsSaid, Swap}
+use Rattle.hc_places.specs.Swap.{AreDifferences, AreOnce, ChangedRow, ChangedTask, Leads, LeadsAsSaid, Swap}
 use Rattle.hc_places.specs.Table.{IsTable, Table, table_of}
 use Rattle.hc_places.proofs.lemmas.Ascends.{table-ascends}
 use Rattle.hc_changes.specs.MaybeMovedAreas.{MaybeMoved}
@@ -41,10 +41,10 @@ candidates-are_placed it candidates read is fits all same = subst (λ (cs : List
 -- the tables that differ are those of the new line
 pub tasks-differ : (it : EditedLine) (table : Table) (known : Before) (trees : List TaskCuts) (tasks : List ChangedTask) → IsEditedLine it → table ≡ table_of (line_from 1 it.old)
     → IsKnownBefore (areas_by_rank it.old) (areas_by_rank it.new) known → trees ≡ line_cuts (areas_by_rank it.new)
-    → AfterEdit table known trees (λ is. AreNewTasks table.tasks (table_of (line_from 1 is)).tasks tasks)
-    → AreNewTasks (table_of (line_from 1 it.old)).tasks (table_of (line_from 1 it.new)).tasks tasks
+    → AfterEdit table known trees (λ is. AreDifferences table.tasks (table_of (line_from 1 is)).tasks tasks)
+    → AreDifferences (table_of (line_from 1 it.old)).tasks (table_of (line_from 1 it.new)).tasks tasks
 tasks-differ it table known trees tasks is is_placed before turned says =
-    subst (λ (t : Table). AreNewTasks t.tasks (table_of (line_from 1 it.new)).tasks tasks) is_placed
+    subst (λ (t : Table). AreDifferences t.tasks (table_of (line_from 1 it.new)).tasks tasks) is_placed
     (says it.old it.new (record { project = is.was_project; table = is_placed; tasks = before; line = record { project = is.is_project; of_groups = turned } }))
 
 -- the rows that were reported, by what was read
@@ -54,7 +54,7 @@ pub answer_given-rows : (it : EditedLine) (table : Table) (candidates read : Lis
 answer_given-rows it table candidates read change rows is_placed all same is answer_given = search rules
 
 abbrev pub AreNewTables : EditedLine → List ChangedTask → Type 0
-AreNewTables it tasks = AreNewTasks (table_of (line_from 1 it.old)).tasks (table_of (line_from 1 it.new)).tasks tasks
+AreNewTables it tasks = AreDifferences (table_of (line_from 1 it.old)).tasks (table_of (line_from 1 it.new)).tasks tasks
 
 pub answer_given-once : (it : EditedLine) (tasks : List ChangedTask) (rows : List ChangedRow) → IsEditedLine it → AreNewTables it tasks
     → rows ≡ changed_rows (table_of (line_from 1 it.old)) (maybe_moved_areas_of it) it.change → AreOnce rows

@@ -31,11 +31,16 @@ pub record ReportsEdit (old : State) (edit : Edit) (new : State) (report : Repor
 abbrev pub Answer : Type 0
 Answer = Result Report EditFault
 
--- an accepted edit makes the new state and says of it; a refused one changes nothing and names its fault, or that a growth was refused, which no fault that the edit has by itself waits for
+-- a refused edit leaves the state as it was; its fault is the edit's own if it has one, else the lowest that holds, or `Memory`
+pub record IsRefusal (old : State) (edit : Edit) (fault : EditFault) (new : State) : Type 0 where
+  pub stays : new ≡ old
+  pub own : IfSome (own_fault old.groups edit) (λ own. fault ≡ own)
+  pub lowest : fault ≢ Memory → edited old edit ≡ Err fault
+
+-- an accepted edit makes the new state, and its report is true of it; a refused one leaves the old state
 abbrev pub IsAnswer : State → Edit → Answer → State → Type 0
 IsAnswer old edit (Ok report) new = (edited old edit ≡ Ok new) × ReportsEdit old edit new report
-IsAnswer old edit (Err fault) new =
-    (fault ≢ Memory → edited old edit ≡ Err fault) × IfSome (own_fault old.groups edit) (λ own. fault ≡ own) × (new ≡ old)
+IsAnswer old edit (Err fault) new = IsRefusal old edit fault new
 
 -- the answers to a list of edits, each in the state that those before it left, and the state that all of them leave
 abbrev pub AreAnswers : State → List (Edit × Answer) → State → Type 0

@@ -3,7 +3,7 @@ use Rattle.std.proofs.Common.{◌≡◌, ℕ, ◌+◌, ◌≤◌, inl, Bool, tru
 use Rattle.std.specs.Prelude.{All, map}
 use Rattle.std.proofs.lemmas.List.Elements.{All-head}
 use Rattle.hc_records.specs.TaskList.{Keyed}
-use Rattle.hc_records.specs.Packing.{Front, Placed, opening, fits, placed_at, front_with, packed}
+use Rattle.hc_records.specs.Packing.{Front, Placed, empty_front, fits, placed_at, front_with, packed}
 use Rattle.hc_records.specs.Image.{datagram_count}
 use Rattle.hc_records.specs.Boundaries.{begins_later}
 use Rattle.hc_records.specs.Laws.{IsPackable, front_after, raised}
@@ -36,10 +36,10 @@ later-other false front area begun later = refl
 
 -- it is as the first area of a list, in the next datagram
 pub first-raised : (datagrams : ℕ) (front : Front) (area : Keyed) → area.1 ≤ 11888 → datagrams ≡ front.datagram + 1 → fits front area ≡ false →
-    placed_at front area ≡ raised datagrams (placed_at opening area)
+    placed_at front area ≡ raised datagrams (placed_at empty_front area)
 first-raised datagrams front area narrow same other =
-    let first : raised datagrams (placed_at opening area) ≡ raised datagrams (place true opening area) =
-    ap (λ fitting. raised datagrams (place fitting opening area)) (opening-fits area narrow) in
+    let first : raised datagrams (placed_at empty_front area) ≡ raised datagrams (place true empty_front area) =
+    ap (λ fitting. raised datagrams (place fitting empty_front area)) (opening-fits area narrow) in
     let number : front.datagram + 1 ≡ 0 + datagrams = omega arith in
     let bit = opening-beginning area in
     ap (λ fitting. place fitting front area) other
@@ -48,21 +48,21 @@ first-raised datagrams front area narrow same other =
     ∙ sym first
 
 -- the datagrams of what is before it are those up to the one being filled
-pub before-count : (before : List Keyed) (area : Keyed) → area.1 ≤ 11888 → fits (front_after opening before) area ≡ false →
-    datagram_count (packed opening before) ≡ (front_after opening before).datagram + 1
+pub before-count : (before : List Keyed) (area : Keyed) → area.1 ≤ 11888 → fits (front_after empty_front before) area ≡ false →
+    datagram_count (packed empty_front before) ≡ (front_after empty_front before).datagram + 1
 before-count [] area narrow other = let fitting = opening-fits area narrow in let none : true ≡ false = sym fitting ∙ other in cc
 before-count (first ∷ before) area narrow other = count-front_after first before
 
 pub packed-alone : (before : List Keyed) (area : Keyed) (areas : List Keyed) → All IsPackable (before ++ area ∷ areas) →
-    begins_later (placed_at (front_after opening before) area) ≡ true →
-    packed opening (before ++ area ∷ areas) ≡ packed opening before ++ map (raised (datagram_count (packed opening before))) (packed opening (area ∷ areas))
+    begins_later (placed_at (front_after empty_front before) area) ≡ true →
+    packed empty_front (before ++ area ∷ areas) ≡ packed empty_front before ++ map (raised (datagram_count (packed empty_front before))) (packed empty_front (area ∷ areas))
 packed-alone before area areas all later =
-    let front = front_after opening before in
-    let count = datagram_count (packed opening before) in
+    let front = front_after empty_front before in
+    let count = datagram_count (packed empty_front before) in
     let narrow = (All-head IsPackable area areas (All-append_right IsPackable before (area ∷ areas) all)).narrow in
-    let begun = front_after-IsBegun opening before (inl refl) (All-append_left IsPackable before (area ∷ areas) all) in
+    let begun = front_after-IsBegun empty_front before (inl refl) (All-append_left IsPackable before (area ∷ areas) all) in
     let other : fits front area ≡ false = later-other (fits front area) front area begun later in
-    let first : placed_at front area ≡ raised count (placed_at opening area) = first-raised count front area narrow (before-count before area narrow other) other in
-    packed-append opening before (area ∷ areas)
-    ∙ ap (λ placed. packed opening before ++ placed ∷ packed (front_with placed) areas) first
-    ∙ ap (λ rest. packed opening before ++ raised count (placed_at opening area) ∷ rest) (packed-raised count (front_with (placed_at opening area)) areas)
+    let first : placed_at front area ≡ raised count (placed_at empty_front area) = first-raised count front area narrow (before-count before area narrow other) other in
+    packed-append empty_front before (area ∷ areas)
+    ∙ ap (λ placed. packed empty_front before ++ placed ∷ packed (front_with placed) areas) first
+    ∙ ap (λ rest. packed empty_front before ++ raised count (placed_at empty_front area) ∷ rest) (packed-raised count (front_with (placed_at empty_front area)) areas)

@@ -2,7 +2,7 @@
 use Rattle.std.proofs.Common.{◌≡◌, ℕ, ◌+◌, Bool, true, false, List, [], ◌∷◌, refl, ap, ◌∙◌, arith}
 use Rattle.std.specs.Prelude.{max}
 use Rattle.hc_records.specs.TaskList.{Keyed}
-use Rattle.hc_records.specs.Packing.{Front, Placed, opening, fits, placed_at, front_with, packed}
+use Rattle.hc_records.specs.Packing.{Front, Placed, empty_front, fits, placed_at, front_with, packed}
 use Rattle.hc_records.specs.Image.{datagram_count}
 use Rattle.hc_records.specs.Laws.{front_after}
 use Rattle.hc_records.proofs.lemmas.Greatest.{greatest}
@@ -22,8 +22,8 @@ counted-packed front (area ∷ areas) =
     let front' = front_with (placed_at front area) in
     ap (λ count. greatest number_after count (packed front' areas)) (counted-place (fits front area) front area) ∙ counted-packed front' areas
 
-pub count-front_after : (area : Keyed) (areas : List Keyed) → datagram_count (packed opening (area ∷ areas)) ≡ (front_after opening (area ∷ areas)).datagram + 1
+pub count-front_after : (area : Keyed) (areas : List Keyed) → datagram_count (packed empty_front (area ∷ areas)) ≡ (front_after empty_front (area ∷ areas)).datagram + 1
 count-front_after area areas =
-    let front' = front_with (placed_at opening area) in
-    let first : max 0 (number_after (placed_at opening area)) ≡ front'.datagram + 1 = omega arith in
+    let front' = front_with (placed_at empty_front area) in
+    let first : max 0 (number_after (placed_at empty_front area)) ≡ front'.datagram + 1 = omega arith in
     ap (λ count. greatest number_after count (packed front' areas)) first ∙ counted-packed front' areas

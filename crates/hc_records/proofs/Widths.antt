@@ -5,7 +5,7 @@ use Rattle.std.proofs.lemmas.List.Elements.{All-head, All-tail}
 use Rattle.hc_records.specs.declared.keys.Key.{Key}
 use Rattle.hc_records.specs.Keys.{same_key}
 use Rattle.hc_records.specs.TaskList.{Keyed}
-use Rattle.hc_records.specs.Packing.{Front, opening, fits, placed_at, front_with}
+use Rattle.hc_records.specs.Packing.{Front, empty_front, fits, placed_at, front_with}
 use Rattle.hc_records.specs.Boundaries.{later_keys, width_in}
 use Rattle.hc_records.specs.Laws.{IsPackable, cuts_from}
 use Rattle.hc_records.proofs.lemmas.KeyOrder.{same_key-refl}
@@ -34,4 +34,4 @@ cut-width front (area ∷ areas) key all contains =
 
 pub later_key-width : (list : List Keyed) (key : Key) → All IsPackable list → Contains (later_keys list) key → 0 < width_in list key
 later_key-width list key all contains =
-    cut-width opening list key all (subst (λ (keys : List Key). Contains keys key) (later_keys-cuts list all) contains)
+    cut-width empty_front list key all (subst (λ (keys : List Key). Contains keys key) (later_keys-cuts list all) contains)

@@ -9,16 +9,16 @@ use Rattle.hc_records.specs.declared.keys.TheConstants.Key.{START, END}
 use Rattle.hc_records.specs.Keys.{same_dir, same_key, is_before, is_within}
 use Rattle.hc_records.specs.Line.{Member}
 use Rattle.hc_records.specs.TaskList.{Keyed, task_list}
-use Rattle.hc_records.specs.Packing.{Placed, opening, packed}
+use Rattle.hc_records.specs.Packing.{Placed, empty_front, packed}
 use Rattle.hc_records.specs.Image.{tasks}
 
--- an area where a second or later datagram begins
+-- a second or later datagram begins at this area: each area has a bit, so only the first of a datagram is at bit 0
 abbrev pub begins_later : Placed → Bool
 begins_later area = (area.bit == 0) && nat_lt 0 area.datagram
 
 -- the keys of those areas of a list that packing puts at bit 0 of a second or later datagram, in the list's order
 abbrev pub later_keys : List Keyed → List Key
-later_keys list = map (λ area. area.key) (filter begins_later (packed opening list))
+later_keys list = map (λ area. area.key) (filter begins_later (packed empty_front list))
 
 -- the boundaries of a task: START, the keys where a second or later datagram begins, and END
 abbrev pub boundaries : List Keyed → List Key

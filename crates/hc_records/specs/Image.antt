@@ -9,11 +9,11 @@ use Rattle.hc_records.specs.Keys.{same_dir}
 use Rattle.hc_records.specs.Area.{Entry, assigned_entries}
 use Rattle.hc_records.specs.Line.{Member}
 use Rattle.hc_records.specs.TaskList.{Listed, task_areas, task_list}
-use Rattle.hc_records.specs.Packing.{Placed, opening, packed}
+use Rattle.hc_records.specs.Packing.{Placed, empty_front, packed}
 
 -- the areas of a task's list with their places
 abbrev pub task_places : ℕ → List Member → List Placed
-task_places task line = packed opening (task_list task line)
+task_places task line = packed empty_front (task_list task line)
 
 -- the areas that lie in a datagram
 abbrev pub inside : ℕ → List Placed → List Placed

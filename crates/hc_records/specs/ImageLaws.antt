@@ -4,7 +4,7 @@ use Rattle.hc_records.specs.declared.limits.TheConstants.{MOST_DATAGRAM_BYTES, M
 use Rattle.hc_records.specs.declared.records.Dir.TheVariants.{In, Out}
 use Rattle.hc_records.specs.Line.{Member, State, groups_of, line}
 use Rattle.hc_records.specs.TaskList.{Keyed}
-use Rattle.hc_records.specs.Packing.{Placed, opening, packed}
+use Rattle.hc_records.specs.Packing.{Placed, empty_front, packed}
 use Rattle.hc_records.specs.Image.{VariablePlace, datagram_count, datagram_length, datagram_offset, image_length, input_length, output_length, task_places, variable_place}
 use Rattle.hc_records.specs.Project.{lowest_fault}
 use Rattle.hc_records.specs.Laws.{IsPackable}
@@ -17,13 +17,13 @@ pub record TilesImage (areas : List Placed) : Type 0 where
 
 -- so do the datagrams of any list of areas that is packed
 abbrev pub DatagramsTileTheImage : Type 0
-DatagramsTileTheImage = (list : List Keyed) → TilesImage (packed opening list)
+DatagramsTileTheImage = (list : List Keyed) → TilesImage (packed empty_front list)
 
 -- the image of a task of at most 16 datagrams has at most 16 times 1,486 bytes
 abbrev pub ImagesAreShort : Type 0
 ImagesAreShort =
-    (list : List Keyed) → All IsPackable list → datagram_count (packed opening list) ≤ MOST_DATAGRAMS
-    → image_length (packed opening list) ≤ MOST_DATAGRAMS * MOST_DATAGRAM_BYTES
+    (list : List Keyed) → All IsPackable list → datagram_count (packed empty_front list) ≤ MOST_DATAGRAMS
+    → image_length (packed empty_front list) ≤ MOST_DATAGRAMS * MOST_DATAGRAM_BYTES
 
 -- a place has 1 to 64 bits, all of them in one datagram of its task
 pub record LiesInDatagram (line : List Member) (place : VariablePlace) : Type 0 where

@@ -8,7 +8,7 @@ use Rattle.hc_records.specs.declared.keys.TheConstants.Key.{START, END}
 use Rattle.hc_records.specs.Keys.{is_before}
 use Rattle.hc_records.specs.Line.{State, groups_of, line}
 use Rattle.hc_records.specs.TaskList.{Keyed, task_list}
-use Rattle.hc_records.specs.Packing.{Front, Placed, opening, fits, placed_at, front_with, packed}
+use Rattle.hc_records.specs.Packing.{Front, Placed, empty_front, fits, placed_at, front_with, packed}
 use Rattle.hc_records.specs.Image.{datagram_count, datagram_length, datagram_offset, output_length}
 use Rattle.hc_records.specs.Boundaries.{begins_later, later_keys, touched, unsettled_spans, width_in}
 use Rattle.hc_records.specs.Project.{lowest_fault}
@@ -34,7 +34,7 @@ LiesInside area = area.bit + area.bits ≤ MOST_AREA_BITS
 
 -- so does each area of a list that is packed
 abbrev pub AreasLieInside : Type 0
-AreasLieInside = (list : List Keyed) → All IsPackable list → All LiesInside (packed opening list)
+AreasLieInside = (list : List Keyed) → All IsPackable list → All LiesInside (packed empty_front list)
 
 -- an area of 8 bits or more begins a byte
 abbrev pub BeginsByte : Placed → Type 0
@@ -42,7 +42,7 @@ BeginsByte area = 8 ≤ area.bits → area.bit % 8 ≡ 0
 
 -- so does each such area of a list that is packed
 abbrev pub WideAreasBeginBytes : Type 0
-WideAreasBeginBytes = (list : List Keyed) → All BeginsByte (packed opening list)
+WideAreasBeginBytes = (list : List Keyed) → All BeginsByte (packed empty_front list)
 
 -- a datagram has 1 to 1,486 bytes
 pub record IsDatagramLength (bytes : ℕ) : Type 0 where
@@ -52,8 +52,8 @@ pub record IsDatagramLength (bytes : ℕ) : Type 0 where
 -- so has each datagram of a list that is packed
 abbrev pub DatagramsAreSendable : Type 0
 DatagramsAreSendable =
-    (list : List Keyed) (datagram : ℕ) → All IsPackable list → datagram < datagram_count (packed opening list)
-    → IsDatagramLength (datagram_length (packed opening list) datagram)
+    (list : List Keyed) (datagram : ℕ) → All IsPackable list → datagram < datagram_count (packed empty_front list)
+    → IsDatagramLength (datagram_length (packed empty_front list) datagram)
 
 -- an area is in an earlier datagram than another, or ends in the same one before the other begins
 abbrev pub LiesBefore : Placed → Placed → Type 0
@@ -61,7 +61,7 @@ LiesBefore a b = (a.datagram < b.datagram) ⊎ ((a.datagram ≡ b.datagram) × (
 
 -- so two areas of a task share no bit
 abbrev pub AreasShareNoBit : Type 0
-AreasShareNoBit = (list : List Keyed) → AllPairs LiesBefore (packed opening list)
+AreasShareNoBit = (list : List Keyed) → AllPairs LiesBefore (packed empty_front list)
 
 -- the keys of a list ascend
 abbrev pub Ascends : List Keyed → Type 0
@@ -83,13 +83,13 @@ KeysLieBelowEnd =
 
 -- a list that fits one datagram
 abbrev pub FitsOneDatagram : List Keyed → Type 0
-FitsOneDatagram part = datagram_count (packed opening part) ≤ 1
+FitsOneDatagram part = datagram_count (packed empty_front part) ≤ 1
 
 -- packing from the front needs no more datagrams than any cut of the list in its order into parts that fit one each
 abbrev pub PackingIsLeast : Type 0
 PackingIsLeast =
     (list : List Keyed) (parts : List (List Keyed)) → flat_map (λ part. part) parts ≡ list
-    → All FitsOneDatagram parts → datagram_count (packed opening list) ≤ length parts
+    → All FitsOneDatagram parts → datagram_count (packed empty_front list) ≤ length parts
 
 -- the datagram being filled once the areas of a list are
 abbrev pub front_after : Front → List Keyed → Front
@@ -104,9 +104,9 @@ raised datagrams area = record area { datagram = area.datagram + datagrams }
 abbrev pub CutsAreAlone : Type 0
 CutsAreAlone =
     (before : List Keyed) (area : Keyed) (areas : List Keyed) → All IsPackable (before ++ area ∷ areas)
-    → begins_later (placed_at (front_after opening before) area) ≡ true
-    → packed opening (before ++ area ∷ areas)
-    ≡ packed opening before ++ map (raised (datagram_count (packed opening before))) (packed opening (area ∷ areas))
+    → begins_later (placed_at (front_after empty_front before) area) ≡ true
+    → packed empty_front (before ++ area ∷ areas)
+    ≡ packed empty_front before ++ map (raised (datagram_count (packed empty_front before))) (packed empty_front (area ∷ areas))
 
 -- the boundary keys from an area on, where a datagram is being filled
 abbrev pub cuts_from : Front → List Keyed → List Key
@@ -118,13 +118,13 @@ cuts_from front (area ∷ areas) =
 
 -- the boundaries inside a list are the keys of the areas that don't fit the datagram being filled
 abbrev pub BoundariesAreCuts : Type 0
-BoundariesAreCuts = (list : List Keyed) → All IsPackable list → later_keys list ≡ cuts_from opening list
+BoundariesAreCuts = (list : List Keyed) → All IsPackable list → later_keys list ≡ cuts_from empty_front list
 
 -- a task that has an area has one datagram more than boundaries inside its list
 abbrev pub DatagramsAreSpans : Type 0
 DatagramsAreSpans =
     (area : Keyed) (areas : List Keyed) → All IsPackable (area ∷ areas)
-    → datagram_count (packed opening (area ∷ areas)) ≡ length (later_keys (area ∷ areas)) + 1
+    → datagram_count (packed empty_front (area ∷ areas)) ≡ length (later_keys (area ∷ areas)) + 1
 
 -- a boundary inside a list is the key of an area with a width
 abbrev pub BoundariesHaveWidth : Type 0
@@ -146,7 +146,7 @@ pub record KeepsToItsPart (areas : List Placed) (area : Placed) : Type 0 where
 
 -- so the outputs of a task are the first bytes of its image, and its inputs are the bytes after them
 abbrev pub OutputsComeFirst : Type 0
-OutputsComeFirst = (list : List Keyed) → Ascends list → All (KeepsToItsPart (packed opening list)) (packed opening list)
+OutputsComeFirst = (list : List Keyed) → Ascends list → All (KeepsToItsPart (packed empty_front list)) (packed empty_front list)
 
 -- the keys of a list lie between START and END
 pub record LiesBetween (list : List Keyed) : Type 0 where

@@ -13,9 +13,9 @@ pub record Front : Type 0 where
   pub bit : ℕ
   pub last : Dir
 
--- the empty first datagram
-abbrev pub opening : Front
-opening = record { datagram = 0; bit = 0; last = Out }
+-- the empty first datagram; its direction decides nothing, since bit 0 begins a byte
+abbrev pub empty_front : Front
+empty_front = record { datagram = 0; bit = 0; last = Out }
 
 -- an area, its width, and the datagram and the bit where it begins
 pub record Placed : Type 0 where
@@ -28,9 +28,13 @@ pub record Placed : Type 0 where
 abbrev pub next_byte : ℕ → ℕ
 next_byte bit = 8 * ((bit + 7) / 8)
 
--- an area of 8 bits or more begins a byte, and so does the first input after an output; another begins at the first free bit
+-- an area begins a byte if it has 8 bits or more, or is the first input after an output of this datagram
+abbrev pub begins_byte : Front → Keyed → Bool
+begins_byte front area = nat_le 8 area.1 || is_turn front.last area.0.dir
+
+-- the bit at which an area would begin in the datagram that is being filled
 abbrev pub beginning : Front → Keyed → ℕ
-beginning front area = if nat_le 8 area.1 || is_turn front.last area.0.dir then next_byte front.bit else front.bit
+beginning front area = if begins_byte front area then next_byte front.bit else front.bit
 
 -- the area would end within the datagram
 abbrev pub fits : Front → Keyed → Bool

@@ -5,7 +5,7 @@ use Rattle.hc_records.specs.declared.keys.TheConstants.Key.{END}
 use Rattle.hc_records.specs.Keys.{is_before, is_within}
 use Rattle.hc_records.specs.Line.{State, groups_of, line}
 use Rattle.hc_records.specs.TaskList.{Keyed, task_list}
-use Rattle.hc_records.specs.Packing.{Front, Placed, front_with, fits, opening, packed, placed_at}
+use Rattle.hc_records.specs.Packing.{Front, Placed, front_with, fits, empty_front, packed, placed_at}
 use Rattle.hc_records.specs.Image.{inside}
 use Rattle.hc_records.specs.Boundaries.{Interval, boundaries, is_settled, spans}
 use Rattle.hc_records.specs.Project.{lowest_fault}
@@ -32,7 +32,7 @@ abbrev pub SpansAreDatagrams : Type 0
 SpansAreDatagrams =
     (list : List Keyed) (datagram : ℕ) (span : Interval) → IsTaskList list
     → slice_get (spans (boundaries list)) datagram ≡ Some span
-    → inside datagram (packed opening list) ≡ filter (lies_in span) (packed opening list)
+    → inside datagram (packed empty_front list) ≡ filter (lies_in span) (packed empty_front list)
 
 -- an area's key, its width, and its first bit in its datagram
 abbrev pub seen_area : Placed → Key × (ℕ × ℕ)
@@ -40,7 +40,7 @@ seen_area area = (area.key, (area.bits, area.bit))
 
 -- what the datagram of a span carries: the areas of the span, each at its first bit
 abbrev pub span_areas : List Keyed → Interval → List (Key × (ℕ × ℕ))
-span_areas list span = map seen_area (filter (lies_in span) (packed opening list))
+span_areas list span = map seen_area (filter (lies_in span) (packed empty_front list))
 
 -- a settled span of the new list is a span of the old list too, and its datagram carries the same areas at the same bits
 pub record CarriesTheSame (old new : List Keyed) (span : Interval) : Type 0 where
@@ -70,8 +70,8 @@ areas_from key list = filter (λ area. is_within key area.0) list
 
 -- the span that begins at a boundary ends where the areas from there on, packed alone, are cut first; its datagram carries those
 pub record IsCutAlone (list : List Keyed) (span : Interval) : Type 0 where
-  pub next : span.1 ≡ next_cut opening (areas_from span.0 list)
-  pub areas : span_areas list span ≡ map seen_area (places_in_span opening (areas_from span.0 list))
+  pub next : span.1 ≡ next_cut empty_front (areas_from span.0 list)
+  pub areas : span_areas list span ≡ map seen_area (places_in_span empty_front (areas_from span.0 list))
 
 -- so it is with every span of a task's list
 abbrev pub SpansAreCutAlone : Type 0

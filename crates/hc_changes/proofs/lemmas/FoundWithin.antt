@@ -15,7 +15,7 @@ use Rattle.hc_records.specs.Boundaries.{later_keys}
 use Rattle.hc_records.specs.Image.{task_places}
 use Rattle.hc_records.specs.Keys.{is_before, is_within, same_dir}
 use Rattle.hc_records.specs.Line.{line_from}
-use Rattle.hc_records.specs.Packing.{Placed, opening, packed}
+use Rattle.hc_records.specs.Packing.{Placed, empty_front, packed}
 use Rattle.hc_records.specs.TaskList.{Keyed, task_list}
 use Rattle.hc_records.proofs.lemmas.KeyOrder.{before-apart, before-else, within-else, within-trans}
 use Rattle.hc_records.proofs.lemmas.Lists.{All-unmap}
@@ -48,11 +48,11 @@ no-input (area ∷ areas) none =
     let parts = or_parts (same_dir area.0.dir In) (has_inputs areas) none in
     All-cons (λ (other : Keyed). same_dir other.0.dir In ≡ false) area areas parts.0 (no-input areas parts.1)
 
-placed-out : (list : List Keyed) (placed : Placed) → has_inputs list ≡ false → Contains (packed opening list) placed → placed.key.dir ≡ Out
+placed-out : (list : List Keyed) (placed : Placed) → has_inputs list ≡ false → Contains (packed empty_front list) placed → placed.key.dir ≡ Out
 placed-out list placed none among =
-    let places = packed opening list in
+    let places = packed empty_front list in
     let outputs = All-unmap (λ (area : Keyed). same_dir area.0.dir In ≡ false) area_of places
-    (subst (λ (areas : List Keyed). All (λ (area : Keyed). same_dir area.0.dir In ≡ false) areas) (sym (packed-areas opening list)) (no-input list none)) in
+    (subst (λ (areas : List Keyed). All (λ (area : Keyed). same_dir area.0.dir In ≡ false) areas) (sym (packed-areas empty_front list)) (no-input list none)) in
     dir-out placed.key.dir (All-contains (λ (p : Placed). same_dir p.key.dir In ≡ false) places placed outputs among)
 
 -- the ranks of areas up to which their datagrams aren't kept, among the first datagrams of a task

@@ -10,7 +10,7 @@ use Rattle.hc_records.specs.Keys.{same_key}
 use Rattle.hc_records.specs.Laws.{LiesInside}
 use Rattle.hc_records.specs.Limits.{IsAreaInside}
 use Rattle.hc_records.specs.Line.{State, groups_of, line, line_from}
-use Rattle.hc_records.specs.Packing.{Placed, opening}
+use Rattle.hc_records.specs.Packing.{Placed, empty_front}
 use Rattle.hc_records.specs.Project.{lowest_fault}
 use Rattle.hc_records.specs.TaskList.{task_list}
 use Rattle.hc_records.proofs.lemmas.Finds.{each-task, found-none}
@@ -41,7 +41,7 @@ is_placed-inside state none fits found of placed is =
     let few = ltb-false MOST_DATAGRAMS (datagram_count places) (each-task (λ t. test t ≡ false) (found-none test tasks fits) task inside.task) in
     let number : placed.datagram + 1 ≤ datagram_count places =
     All-contains (λ (p : Placed). p.datagram + 1 ≤ datagram_count places) places placed (greatest-all (λ (p : Placed). p.datagram + 1) 0 places) stood.among in
-    let lies : LiesInside placed = All-contains LiesInside places placed (packed-inside opening (task_list task (line state)) (project-packable state task none)) stood.among in
+    let lies : LiesInside placed = All-contains LiesInside places placed (packed-inside empty_front (task_list task (line state)) (project-packable state task none)) stood.among in
     let suits : SuitsPlace placed found.area = search (rules, All-contains, task-suits, same_key-same, area-named) in
     let bits = suits.bits in
     record { task = inside.task; datagram = omega (arith, few, number); inside = omega (arith, lies, bits); offers = suits.offers }

@@ -11,7 +11,7 @@ use Rattle.hc_records.specs.declared.keys.Key.{Key}
 use Rattle.hc_records.specs.Keys.{same_key}
 use Rattle.hc_records.specs.Line.{Member, State, groups_of, line}
 use Rattle.hc_records.specs.TaskList.{Keyed, task_list}
-use Rattle.hc_records.specs.Packing.{Placed, opening, packed}
+use Rattle.hc_records.specs.Packing.{Placed, empty_front, packed}
 use Rattle.hc_records.specs.Project.{lowest_fault}
 use Rattle.hc_records.specs.SpanLaws.{IsTaskList}
 use Rattle.hc_records.proofs.lemmas.Finds.{found-none}
@@ -39,14 +39,14 @@ none-twice found old new ranks of of' none None is = refl
 none-twice found old new ranks of of' none (Some placed) is =
     let key = line_area_key found in
     let task = found.area.task in
-    let stood = found-among (λ (p : Placed). same_key p.key key) (packed opening (task_list task old)) placed is in
+    let stood = found-among (λ (p : Placed). same_key p.key key) (packed empty_front (task_list task old)) placed is in
     let listed : Contains (task_list task old) (placed.key, placed.bits) =
-    subst (λ (l : List Keyed). Contains l (placed.key, placed.bits)) (packed-areas opening (task_list task old))
-    (contains-mapped area_of (packed opening (task_list task old)) placed stood.among) in
+    subst (λ (l : List Keyed). Contains l (placed.key, placed.bits)) (packed-areas empty_front (task_list task old))
+    (contains-mapped area_of (packed empty_front (task_list task old)) placed stood.among) in
     let wide = listed-wide old found task (placed.key, placed.bits) ranks of listed (same_key-same placed.key key stood.passes) in
-    let again : Contains (map area_of (packed opening (task_list task new))) (key, width found.area) =
-    subst (λ (l : List Keyed). Contains l (key, width found.area)) (sym (packed-areas opening (task_list task new))) (wide-listed new found of' wide) in
-    let here = map-piece area_of (packed opening (task_list task new)) (key, width found.area) again in
+    let again : Contains (map area_of (packed empty_front (task_list task new))) (key, width found.area) =
+    subst (λ (l : List Keyed). Contains l (key, width found.area)) (sym (packed-areas empty_front (task_list task new))) (wide-listed new found of' wide) in
+    let here = map-piece area_of (packed empty_front (task_list task new)) (key, width found.area) again in
     let same : here.0.key ≡ key = ap (λ (a : Keyed). a.0) here.2 in
     let never : same_key here.0.key key ≡ false = search (rules, All-contains, found-none) in
     let own : same_key here.0.key key ≡ true = subst (λ (k : Key). same_key here.0.key k ≡ true) same (same_key-refl here.0.key) in

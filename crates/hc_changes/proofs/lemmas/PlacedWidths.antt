@@ -11,7 +11,7 @@ use Rattle.hc_records.specs.Boundaries.{width_in}
 use Rattle.hc_records.specs.Keys.{same_key}
 use Rattle.hc_records.specs.Line.{line_from}
 use Rattle.hc_records.specs.TaskList.{Keyed, task_list}
-use Rattle.hc_records.specs.Packing.{Placed, opening, packed}
+use Rattle.hc_records.specs.Packing.{Placed, empty_front, packed}
 use Rattle.hc_records.proofs.lemmas.KeyOrder.{same_dir-refl}
 use Rattle.hc_records.proofs.lemmas.Packed.{area_of, packed-areas}
 use Rattle.hc_cuts.specs.Place.{place_of as place_by}
@@ -34,7 +34,7 @@ bits-beside [] key = refl
 bits-beside (placed ∷ places) key = search (rules, bits-by, bits-beside places key)
 
 pub bits-packed : (list : List Keyed) (key : Key) → placed_bits (place_by key list) ≡ width_in list key
-bits-packed list key = bits-beside (packed opening list) key ∙ ap (λ (areas : List Keyed). width_in areas key) (packed-areas opening list)
+bits-packed list key = bits-beside (packed empty_front list) key ∙ ap (λ (areas : List Keyed). width_in areas key) (packed-areas empty_front list)
 
 -- so an area of the line has its own
 

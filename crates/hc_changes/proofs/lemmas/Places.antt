@@ -14,7 +14,7 @@ use Rattle.hc_records.specs.Image.{VariablePlace, area_variables, task_places, t
 use Rattle.hc_records.specs.Keys.{same_dir, same_key}
 use Rattle.hc_records.specs.Limits.{IsAreaInside, IsSlaveInside}
 use Rattle.hc_records.specs.Line.{Member, State, groups_of, line}
-use Rattle.hc_records.specs.Packing.{Placed, opening, packed}
+use Rattle.hc_records.specs.Packing.{Placed, empty_front, packed}
 use Rattle.hc_records.specs.Project.{lowest_fault}
 use Rattle.hc_records.specs.TaskList.{Keyed, Listed, belongs, slave_areas, task_areas, task_list}
 use Rattle.hc_records.proofs.lemmas.Entries.{HasEntryWidths, line-widths}
@@ -127,8 +127,8 @@ pair-is_placed state none task pair row at own =
     let is_placed : Contains places pair.1 = All-contains (λ (p : Listed × Placed). Contains places p.1) (zip areas places) pair (zip-right (Contains places) areas places (All-contains_itself places)) at in
     let key : pair.1.key ≡ line_area_key found = placed.key ∙ listing.key in
     let same : same_key pair.1.key (line_area_key found) ≡ true = subst (λ (k : Key). same_key pair.1.key k ≡ true) key (same_key-refl pair.1.key) in
-    let there : Contains (packed opening (task_list found.area.task (line state))) pair.1 =
-    subst (λ (t : ℕ). Contains (packed opening (task_list t (line state))) pair.1) (sym listing.task) is_placed in
+    let there : Contains (packed empty_front (task_list found.area.task (line state))) pair.1 =
+    subst (λ (t : ℕ). Contains (packed empty_front (task_list t (line state))) pair.1) (sym listing.task) is_placed in
     let place : line_area_place (line state) found ≡ Some pair.1 = search (rules, placed-found, project-list) in
     let rows : area_variables task pair ≡ option_map_or (area_rows found.area.task found.area) (line_area_place (line state) found) [] = search rules in
     record { found = found; of = listing.of; row = subst (λ (rs : List VariableRow). Contains rs row) rows own }
@@ -178,8 +178,8 @@ area-placed state none found of wide =
     let list = task_list found.area.task (line state) in
     let key = line_area_key found in
     let at = wide-listed (line state) found of (lt-ltb 0 (width found.area) wide) in
-    let again : Contains (map area_of (packed opening list)) (key, width found.area) = search (rules, packed-areas) in
-    let here = map-piece area_of (packed opening list) (key, width found.area) again in
+    let again : Contains (map area_of (packed empty_front list)) (key, width found.area) = search (rules, packed-areas) in
+    let here = map-piece area_of (packed empty_front list) (key, width found.area) again in
     let is : here.0.key ≡ key = ap (λ (a : Keyed). a.0) here.2 in
     let same : same_key here.0.key key ≡ true = subst (λ (k : Key). same_key here.0.key k ≡ true) is (same_key-refl here.0.key) in
     (here.0, placed-found list key here.0 (project-list state found.area.task none) here.1 same)

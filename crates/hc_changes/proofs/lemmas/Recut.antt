@@ -14,7 +14,7 @@ use Rattle.hc_records.specs.Boundaries.{Interval, boundaries, hull, is_settled, 
 use Rattle.hc_records.specs.Image.{datagram_count, task_places}
 use Rattle.hc_records.specs.Keys.{same_key}
 use Rattle.hc_records.specs.Line.{Member, State, groups_of, line}
-use Rattle.hc_records.specs.Packing.{Placed, opening, packed}
+use Rattle.hc_records.specs.Packing.{Placed, empty_front, packed}
 use Rattle.hc_records.specs.Project.{lowest_fault}
 use Rattle.hc_records.specs.SpanLaws.{IsTaskList}
 use Rattle.hc_records.specs.TaskList.{Keyed, task_list}
@@ -43,11 +43,11 @@ own-settled list span datagram none begins =
     (ap (same_key span.0) (get_or_from_slice_get (boundaries list) datagram span.0 span.0 begins) ∙ same_key-refl span.0))
     (ap (λ (keys : List Key). not (meets_hull (hull Out keys) span || meets_hull (hull In keys) span)) none)
 
-pub own-counted : (list : List Keyed) (datagram : ℕ) → IsTaskList list → datagram < datagram_count (packed opening list) → datagram < length (later_keys list) + 1
+pub own-counted : (list : List Keyed) (datagram : ℕ) → IsTaskList list → datagram < datagram_count (packed empty_front list) → datagram < length (later_keys list) + 1
 own-counted [] datagram is low = absurd (omega arith)
 own-counted (area ∷ areas) datagram is low = let count = count-later_keys area areas is.packable in omega arith
 
-own-unchanged : (list : List Keyed) (datagram : ℕ) (key : Key) → IsTaskList list → touched list list ≡ [] → datagram < datagram_count (packed opening list)
+own-unchanged : (list : List Keyed) (datagram : ℕ) (key : Key) → IsTaskList list → touched list list ≡ [] → datagram < datagram_count (packed empty_front list)
     → is_unchanged_up_to list list datagram key ≡ true
 own-unchanged list datagram key is none low =
     let found = span-at START (later_keys list) datagram (own-counted list datagram is low) in
@@ -72,9 +72,9 @@ untouched-areas old new found was is none =
     let nothing : touched after after ≡ [] = ap (λ (list : List Keyed). touched list after) (sym same) ∙ no-length (touched before after) none in
     unrecut-by before after (line_area_place (line new) found)
     (λ placed at.
-    let here = found-among (λ (p : Placed). same_key p.key (line_area_key found)) (packed opening after) placed at in
-    let counted : placed.datagram + 1 ≤ datagram_count (packed opening after) =
-    All-contains (λ (p : Placed). p.datagram + 1 ≤ datagram_count (packed opening after)) (packed opening after) placed (greatest-all (λ (p : Placed). p.datagram + 1) 0 (packed opening after)) here.among in
+    let here = found-among (λ (p : Placed). same_key p.key (line_area_key found)) (packed empty_front after) placed at in
+    let counted : placed.datagram + 1 ≤ datagram_count (packed empty_front after) =
+    All-contains (λ (p : Placed). p.datagram + 1 ≤ datagram_count (packed empty_front after)) (packed empty_front after) placed (greatest-all (λ (p : Placed). p.datagram + 1) 0 (packed empty_front after)) here.among in
     ap (λ (list : List Keyed). is_unchanged_up_to list after placed.datagram placed.key) same
     ∙ own-unchanged after placed.datagram placed.key (project-list new task is) nothing (omega arith))
 

@@ -1,6 +1,6 @@
 -- The rows that an edit changes are given by the candidates and by the slaves that change.
 use Rattle.std.proofs.Common.{◌≡◌, ℕ, suc, ◌+◌, ◌-◌, ◌<◌, ◌≤◌, ◌==◌, Bool, true, false, cond, List, [], ◌∷◌, ◌++◌, Contains, Option, Some, None, length, refl, sym, ap, subst, ◌∙◌, arith}
-use Rattle.std.specs.Prelude.{All, filter, find, map, not, option_map, slice_index_or, ◌||◌}
+use Rattle.std.specs.Prelude.{All, filter, find, if◌then◌else◌, map, not, option_map, slice_index_or, ◌||◌}
 use Rattle.std.specs.List.{flat_map, list_any, zip}
 use Rattle.std.proofs.lemmas.Bool.{eq-eqb, eqb-true, not-true, or_parts}
 use Rattle.std.proofs.lemmas.List.Elements.{All-append, All-contains, All-contains_itself, All-map, All-weaker, Contains-append_left, Contains-append_right, filter_passes}
@@ -15,7 +15,7 @@ use Rattle.hc_records.proofs.lemmas.TaskLists.{project-list}
 use Rattle.hc_cuts.specs.Areas.{areas_of_rank, areas_by_rank}
 use Rattle.hc_cuts.specs.LineChange.{LineChange}
 use Rattle.hc_cuts.specs.ApplyWidths.{AreLines}
-use Rattle.hc_places.specs.Swap.{ChangedRow, new_place, same_found}
+use Rattle.hc_places.specs.Swap.{ChangedRow, same_found}
 use Rattle.hc_places.specs.Table.{VariableRow, Table, place_in, table_of}
 use Rattle.hc_places.proofs.lemmas.Once.{of_row, own}
 use Rattle.hc_places.proofs.lemmas.Same.{found-same}
@@ -303,7 +303,7 @@ said-none false rows variable now none answer_given =
     cc
 
 said-some : (old new : Table) (rows : List ChangedRow) (variable : ℕ) (changed : ChangedRow) → All (IsRight old new) rows → find (λ c. c.0 == variable) rows ≡ Some changed
-    → Some changed.1 ≡ new_place (place_in old variable) (place_in new variable)
+    → Some changed.1 ≡ (if same_found (place_in old variable) (place_in new variable) then None else Some (place_in new variable))
 said-some old new rows variable changed right is =
     let found = found-among (λ (c : ChangedRow). c.0 == variable) rows changed is in
     let number : changed.0 ≡ variable = eqb-true changed.0 variable found.passes in
@@ -317,7 +317,7 @@ said-some old new rows variable changed right is =
 said-by : (old new : Table) (rows : List ChangedRow) (variable : ℕ) → All (IsRight old new) rows
     → (same_found (place_in old variable) (place_in new variable) ≡ false → IsAnswered variable rows)
     → (found : Option ChangedRow) → find (λ c. c.0 == variable) rows ≡ found
-    → option_map (λ (c : ChangedRow). c.1) found ≡ new_place (place_in old variable) (place_in new variable)
+    → option_map (λ (c : ChangedRow). c.1) found ≡ (if same_found (place_in old variable) (place_in new variable) then None else Some (place_in new variable))
 said-by old new rows variable right answer_given None is =
     said-none (same_found (place_in old variable) (place_in new variable)) rows variable (place_in new variable) (found-none (λ (c : ChangedRow). c.0 == variable) rows is) answer_given
 said-by old new rows variable right answer_given (Some changed) is = said-some old new rows variable changed right is

@@ -2,7 +2,7 @@
 use Rattle.std.proofs.Common.{◌≡◌, List, sym, ap, subst, ◌∙◌, rules}
 use Rattle.std.proofs.lemmas.Bool.{and_parts, ltb-false, ltb-true, not-true}
 use Rattle.hc_records.specs.Line.{line_from}
-use Rattle.hc_places.specs.Swap.{AreOnce, ChangedRow, ChangedTask, SaysWhatDiffers, AreNewTasks}
+use Rattle.hc_places.specs.Swap.{AreOnce, ChangedRow, ChangedTask, SaysWhatDiffers, AreDifferences}
 use Rattle.hc_places.specs.Table.{Table, table_of}
 use Rattle.hc_cuts.specs.LineChange.{changes}
 use Rattle.hc_changes.specs.EditedLine.{EditedLine, IsEditedLine, maybe_moved_areas_of}
@@ -28,7 +28,7 @@ edited_line-answer_given edited_line is =
 pub swap-says : (edited_line : EditedLine) → IsEditedLine edited_line → (old : Table) → old ≡ table_of (line_from 1 edited_line.old)
     → (tasks : List ChangedTask) (rows : List ChangedRow) (candidates : List MaybeMoved) → candidates ≡ maybe_moved_areas_of edited_line
     → rows ≡ changed_rows old candidates edited_line.change
-    → AreNewTasks old.tasks (table_of (line_from 1 edited_line.new)).tasks tasks
+    → AreDifferences old.tasks (table_of (line_from 1 edited_line.new)).tasks tasks
     → SaysWhatDiffers old (table_of (line_from 1 edited_line.new)) (record { tasks = tasks; rows = rows }) × AreOnce rows
 swap-says edited_line is old was tasks rows candidates all answer_given differ =
     let new = table_of (line_from 1 edited_line.new) in

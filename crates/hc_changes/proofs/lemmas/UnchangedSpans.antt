@@ -8,7 +8,7 @@ use Rattle.hc_records.specs.declared.keys.Key.{Key}
 use Rattle.hc_records.specs.declared.keys.TheConstants.Key.{START, END}
 use Rattle.hc_records.specs.Keys.{is_before, same_key}
 use Rattle.hc_records.specs.TaskList.{Keyed}
-use Rattle.hc_records.specs.Packing.{opening, packed}
+use Rattle.hc_records.specs.Packing.{empty_front, packed}
 use Rattle.hc_records.specs.Image.{inside}
 use Rattle.hc_records.specs.Boundaries.{Interval, boundaries, is_settled, later_keys, spans}
 use Rattle.hc_records.specs.SpanLaws.{IsTaskList, seen_area}
@@ -60,14 +60,14 @@ unchanged-number old new datagram is is' unchanged =
 
 -- so a kept datagram carries the same areas at the same bits
 pub unchanged-inside : (old new : List Keyed) (datagram : ℕ) → IsTaskList old → IsTaskList new → is_unchanged old new datagram ≡ true
-    → inside datagram (packed opening new) ≡ inside datagram (packed opening old)
+    → inside datagram (packed empty_front new) ≡ inside datagram (packed empty_front old)
 unchanged-inside old new datagram is is' test =
     let unchanged = unchanged-parts old new datagram test in
     let span = unchanged.span in
     let same = settled-stays old new span is is' (at-contained (spans (boundaries new)) datagram span unchanged.is_placed) unchanged.settled in
     let after = span-datagram new datagram span is' unchanged.is_placed in
     let before = span-datagram old datagram span is (unchanged-number old new datagram is is' unchanged) in
-    let seen : map seen_area (inside datagram (packed opening new)) ≡ map seen_area (inside datagram (packed opening old)) = search rules in
-    sym (shown datagram (inside datagram (packed opening new)) (inside-numbered datagram (packed opening new)))
+    let seen : map seen_area (inside datagram (packed empty_front new)) ≡ map seen_area (inside datagram (packed empty_front old)) = search rules in
+    sym (shown datagram (inside datagram (packed empty_front new)) (inside-numbered datagram (packed empty_front new)))
     ∙ ap (map (unseen datagram)) seen
-    ∙ shown datagram (inside datagram (packed opening old)) (inside-numbered datagram (packed opening old))
+    ∙ shown datagram (inside datagram (packed empty_front old)) (inside-numbered datagram (packed empty_front old))

@@ -8,7 +8,7 @@ use Rattle.hc_records.specs.declared.records.Dir.{Dir}
 use Rattle.hc_records.specs.declared.records.Dir.TheVariants.{Out}
 use Rattle.hc_records.specs.declared.keys.Key.{Key}
 use Rattle.hc_records.specs.TaskList.{Keyed}
-use Rattle.hc_records.specs.Packing.{Front, Placed, front_with, fits, opening, packed}
+use Rattle.hc_records.specs.Packing.{Front, Placed, front_with, fits, empty_front, packed}
 use Rattle.hc_records.specs.Image.{datagram_count, inside}
 use Rattle.hc_records.specs.Boundaries.{Interval, boundaries, spans}
 use Rattle.hc_records.specs.SpanLaws.{IsTaskList, areas_from, places_in_span, seen_area}
@@ -75,12 +75,12 @@ carried-seen n m bit last (area ∷ areas) =
 
 -- the places of the span with a number are those inside the datagram with that number
 pub span-inside : (list : List Keyed) (number : ℕ) (span : Interval) → IsTaskList list → slice_get (spans (boundaries list)) number ≡ Some span
-    → span_places number span.0 list ≡ inside number (packed opening list)
+    → span_places number span.0 list ≡ inside number (packed empty_front list)
 span-inside list number span is numbered =
     let alone = span-alone list span is (at-contained (spans (boundaries list)) number span numbered) in
     let own = areas_from span.0 list in
-    let alike : seen (span_places number span.0 list) ≡ seen (inside number (packed opening list)) =
+    let alike : seen (span_places number span.0 list) ≡ seen (inside number (packed empty_front list)) =
     carried-seen number 0 0 Out own ∙ sym alone.areas ∙ sym (ap (λ (areas : List Placed). seen areas) (span-datagram list number span is numbered)) in
     sym (shown number (span_places number span.0 list) (carried-numbered number 0 Out own))
     ∙ ap (map (unseen number)) alike
-    ∙ shown number (inside number (packed opening list)) (inside-numbered number (packed opening list))
+    ∙ shown number (inside number (packed empty_front list)) (inside-numbered number (packed empty_front list))

@@ -18,7 +18,7 @@ use Rattle.hc_records.specs.Keys.{same_dir, same_key}
 use Rattle.hc_records.specs.Laws.{IsPackable}
 use Rattle.hc_records.specs.Limits.{IsSlaveInside}
 use Rattle.hc_records.specs.Line.{Member, State, groups_of, is_at, line}
-use Rattle.hc_records.specs.Packing.{Placed, opening, packed}
+use Rattle.hc_records.specs.Packing.{Placed, empty_front, packed}
 use Rattle.hc_records.specs.Project.{lowest_fault}
 use Rattle.hc_records.specs.TaskList.{Keyed, task_list}
 use Rattle.hc_records.proofs.lemmas.Addresses.{uncrowded-few}
@@ -278,13 +278,13 @@ sound_places : (state : State) (task : ℕ) → lowest_fault (groups_of state.gr
 sound_places state task project uncrowded low k d within =
     let members = line state in
     let list = task_list task members in
-    let places = packed opening list in
+    let places = packed empty_front list in
     let packable : All IsPackable list = project-packable state task project in
     let count = uncrowded-few members task uncrowded low in
     let after_it : (slice_index_or places k d).datagram + 1 ≤ datagram_count places = greatest-all (λ (placed : Placed). placed.datagram + 1) 0 places k d within in
     record {
-      bits = All-unmap (HasBits members task) area_of places (subst (All (HasBits members task)) (sym (packed-areas opening list)) (keys_have_bits members task)) k d within;
-      inside = packed-inside opening list packable k d within;
+      bits = All-unmap (HasBits members task) area_of places (subst (All (HasBits members task)) (sym (packed-areas empty_front list)) (keys_have_bits members task)) k d within;
+      inside = packed-inside empty_front list packable k d within;
       early = omega (arith, after_it, count);
     }
 
@@ -391,7 +391,7 @@ keys_are_low state task project =
     let tests = and_parts (element.1.task == task) (same_dir element.1.dir dir) first.0 in
     subst (λ (n : ℕ). n < TASKS) (eqb-true element.1.task task tests.0) (low_task state member element.0 element.1 project (Contains-get_or (line state) j d low) (numbered-own member.slave.areas i e within)))
 
-low_if : (task d : ℕ) (list : List Keyed) → All (λ (keyed : Keyed). task < TASKS) list → d < datagram_count (packed opening list) → task < TASKS
+low_if : (task d : ℕ) (list : List Keyed) → All (λ (keyed : Keyed). task < TASKS) list → d < datagram_count (packed empty_front list) → task < TASKS
 low_if task d [] all is_placed = absurd (omega arith)
 low_if task d (keyed ∷ list) all is_placed = all 0 keyed (omega arith)
 

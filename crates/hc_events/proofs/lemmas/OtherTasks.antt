@@ -18,7 +18,7 @@ use Rattle.hc_records.specs.Edits.{area_at}
 use Rattle.hc_records.specs.Image.{VariablePlace, area_variables, task_places, task_variables, tasks, variable_place}
 use Rattle.hc_records.specs.Keys.{same_dir, same_key}
 use Rattle.hc_records.specs.Line.{Member, State, groups_of, line}
-use Rattle.hc_records.specs.Packing.{Placed, opening, packed}
+use Rattle.hc_records.specs.Packing.{Placed, empty_front, packed}
 use Rattle.hc_records.specs.Project.{lowest_fault}
 use Rattle.hc_records.specs.TaskList.{Listed, belongs, keyed, slave_areas, task_areas, task_list}
 use Rattle.hc_records.proofs.lemmas.Choices.{by_bool}
@@ -194,7 +194,7 @@ in_task task members =
     (λ j e within passes. let one = slice_index_or (enumerate_from 0 member.slave.areas) j e in eqb-true one.1.task task (and_parts (one.1.task == task) (nat_lt 0 (width one.1)) passes).0)))
 
 same_places : (old new : List Member) (task : ℕ) → task_areas task old ≡ task_areas task new → task_places task old ≡ task_places task new
-same_places old new task same = ap (λ (areas : List Listed). packed opening (map keyed areas)) same
+same_places old new task same = ap (λ (areas : List Listed). packed empty_front (map keyed areas)) same
 
 same_blocks : (old new : State) (task : ℕ) → lowest_fault (groups_of old.groups) ≡ None → lowest_fault (groups_of new.groups) ≡ None → areas_in_task task (line new) ≡ areas_in_task task (line old) → task_blocks old task ≡ task_blocks new task
 same_blocks old new task project project' same =

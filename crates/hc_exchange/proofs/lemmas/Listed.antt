@@ -13,7 +13,7 @@ use Rattle.hc_records.specs.Area.{width}
 use Rattle.hc_records.specs.Image.{task_places}
 use Rattle.hc_records.specs.Keys.{same_dir, same_key}
 use Rattle.hc_records.specs.Line.{Member, line}
-use Rattle.hc_records.specs.Packing.{Placed, opening}
+use Rattle.hc_records.specs.Packing.{Placed, empty_front}
 use Rattle.hc_records.specs.TaskList.{Keyed, Listed, belongs, keyed, slave_areas, task_areas, task_list}
 use Rattle.hc_records.proofs.lemmas.Finds.{found-none}
 use Rattle.hc_records.proofs.lemmas.KeyOrder.{same_dir-refl, same_key-refl}
@@ -63,7 +63,7 @@ is-found line member index area has own some none =
     let places = task_places area.task line in
     let test = λ (p : Placed). same_key p.key key in
     let listed_so : Contains (map area_of places) (key, width area) =
-    subst (λ (list : List Keyed). Contains list (key, width area)) (sym (packed-areas opening (task_list area.task line))) (in-list line member index area has own some) in
+    subst (λ (list : List Keyed). Contains list (key, width area)) (sym (packed-areas empty_front (task_list area.task line))) (in-list line member index area has own some) in
     let placed = contains-unmapped area_of places (key, width area) listed_so in
     let missed : same_key placed.0.key key ≡ false =
     All-contains (λ (p : Placed). test p ≡ false) places placed.0 (found-none test places (none-found (mapping_at area.task) (find test places) none)) placed.1 in

@@ -10,7 +10,7 @@ use Rattle.hc_records.specs.Area.{width}
 use Rattle.hc_records.specs.Image.{datagram_count, task_places}
 use Rattle.hc_records.specs.Limits.{IsAreaInside, IsSlaveInside, KeepApart, Reaches}
 use Rattle.hc_records.specs.Line.{Member, State, groups_of, line}
-use Rattle.hc_records.specs.Packing.{Placed, opening, packed}
+use Rattle.hc_records.specs.Packing.{Placed, empty_front, packed}
 use Rattle.hc_records.specs.Project.{reach}
 use Rattle.hc_records.specs.ProjectLaws.{HoldsItsWidth}
 use Rattle.hc_records.specs.TaskList.{task_list}
@@ -44,15 +44,15 @@ good-places : (state : State) (task : ℕ) → IsConfigurable state → task < T
 good-places state task can low k d within =
     let members = line state in
     let list = task_list task members in
-    let places = packed opening list in
+    let places = packed empty_front list in
     let packable : All IsPackable list = project-packable state task can.project in
     let count = uncrowded-few members task can.uncrowded low in
     let after_it : (slice_index_or places k d).datagram + 1 ≤ datagram_count places = greatest-all (λ (placed : Placed). placed.datagram + 1) 0 places k d within in
     let own : IsPackable (area_of (slice_index_or places k d)) =
-    All-unmap IsPackable area_of places (subst (All IsPackable) (sym (packed-areas opening list)) packable) k d within in
+    All-unmap IsPackable area_of places (subst (All IsPackable) (sym (packed-areas empty_front list)) packable) k d within in
     record {
       some = own.some;
-      inside = packed-inside opening list packable k d within;
+      inside = packed-inside empty_front list packable k d within;
       early = omega (arith, after_it, count);
     }
 

@@ -11,7 +11,7 @@ use Rattle.hc_records.specs.Area.{width}
 use Rattle.hc_records.specs.Image.{task_places}
 use Rattle.hc_records.specs.Keys.{same_key}
 use Rattle.hc_records.specs.Line.{Member}
-use Rattle.hc_records.specs.Packing.{Placed, opening, packed}
+use Rattle.hc_records.specs.Packing.{Placed, empty_front, packed}
 use Rattle.hc_records.specs.TaskList.{Keyed, task_list}
 use Rattle.hc_records.proofs.lemmas.Disjoint.{LiesBefore, packed-apart}
 use Rattle.hc_records.proofs.lemmas.Finds.{found-all, mapped-some}
@@ -63,7 +63,7 @@ pub place-widths : (line : List Member) (member : Member) (index : ℕ) (area : 
 place-widths line member index area task stays has own =
     let list = task_list task line in
     let named = λ (k : Keyed). (k.0 ≡ member_area_key member index area → k.1 ≡ width area) in
-    All-unmap named area_of (packed opening list) (subst (All named) (sym (packed-areas opening list)) (list-widths line member index area task stays has own))
+    All-unmap named area_of (packed empty_front list) (subst (All named) (sym (packed-areas empty_front list)) (list-widths line member index area task stays has own))
 
 -- where an area is mapped: at its place in its task's list
 pub record Place (line : List Member) (member : Member) (index : ℕ) (area : Area) (mapping : Mapping) : Type 0 where
@@ -113,10 +113,10 @@ meet-no a b k l same bits below (inl earlier) = omega arith
 meet-no a b k l same bits below (inr after_it) = let ends = after_it.1 in omega arith
 
 -- two places of a task that have a logical bit in common are one
-one-place : (list : List Keyed) (a b : Placed) (k l : ℕ) → Contains (packed opening list) a → Contains (packed opening list) b → a.datagram ≡ b.datagram → a.bit + k ≡ b.bit + l
+one-place : (list : List Keyed) (a b : Placed) (k l : ℕ) → Contains (packed empty_front list) a → Contains (packed empty_front list) b → a.datagram ≡ b.datagram → a.bit + k ≡ b.bit + l
     → k < a.bits → l < b.bits → a ≡ b
 one-place list a b k l has has' same bits below below' =
-    elim (contains-order LiesBefore (packed opening list) a b (packed-apart opening list) has has') [
+    elim (contains-order LiesBefore (packed empty_front list) a b (packed-apart empty_front list) has has') [
       | inl one ↦ one
       | inr (inl before) ↦ absurd (meet-no a b k l same bits below before)
       | inr (inr before) ↦ absurd (meet-no b a l k (sym same) (sym bits) below' before)

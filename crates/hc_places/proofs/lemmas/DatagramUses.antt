@@ -16,7 +16,7 @@ use Rattle.hc_records.specs.Keys.{same_dir}
 use Rattle.hc_records.specs.Line.{Member, groups_of, line_from}
 use Rattle.hc_records.specs.Project.{lowest_fault}
 use Rattle.hc_records.specs.TaskList.{Keyed, task_list}
-use Rattle.hc_records.specs.Packing.{Front, Placed, front_with, fits, opening, packed, placed_at}
+use Rattle.hc_records.specs.Packing.{Front, Placed, front_with, fits, empty_front, packed, placed_at}
 use Rattle.hc_records.specs.Image.{datagram_count, datagram_length, datagram_offset, end_of, inside, logical_address, output_length, task_places, tasks}
 use Rattle.hc_records.specs.Laws.{Ascends, KeepsToItsPart}
 use Rattle.hc_records.proofs.lemmas.Finds.{found-none}
@@ -101,11 +101,11 @@ fills areas datagram area stays output = grind arith
 bytes-low : (bytes end : ℕ) → end ≤ 8 * bytes → (end + 7) / 8 ≤ bytes
 bytes-low bytes end low = omega arith
 
-part-by : (list : List Keyed) (datagram : ℕ) (found : Option Placed) → Ascends list → find is_input (inside datagram (packed opening list)) ≡ found
-    → outputs_by found (datagram_length (packed opening list) datagram)
-    ≡ min (output_length (packed opening list) - datagram_offset (packed opening list) datagram) (datagram_length (packed opening list) datagram)
+part-by : (list : List Keyed) (datagram : ℕ) (found : Option Placed) → Ascends list → find is_input (inside datagram (packed empty_front list)) ≡ found
+    → outputs_by found (datagram_length (packed empty_front list) datagram)
+    ≡ min (output_length (packed empty_front list) - datagram_offset (packed empty_front list) datagram) (datagram_length (packed empty_front list) datagram)
 part-by list datagram None ascends none =
-    let areas = packed opening list in
+    let areas = packed empty_front list in
     let bytes = output_length areas - datagram_offset areas datagram in
     let stays = stays-inside areas datagram (outputs-first list ascends) in
     let outputs = found-none is_input (inside datagram areas) none in
@@ -114,12 +114,12 @@ part-by list datagram None ascends none =
     (λ k d within. fills areas datagram _ (stays k d within) (dir-out _ (outputs k d within))) in
     sym (min-eq_right {n = datagram_length areas datagram} {m = bytes} (bytes-low bytes (end_of (inside datagram areas)) low))
 part-by list datagram (Some first) ascends found =
-    let areas = packed opening list in
+    let areas = packed empty_front list in
     let bytes = output_length areas - datagram_offset areas datagram in
     let all = stays-inside areas datagram (outputs-first list ascends) in
     let is = find-holds (StaysInPart areas datagram) is_input (inside datagram areas) first found all in
     let low : first.bit ≤ 8 * bytes =
-    first-low bytes datagram opening list first (λ at. (refl, omega arith))
+    first-low bytes datagram empty_front list first (λ at. (refl, omega arith))
     (All-weaker (StaysInPart areas datagram) (FillsTo bytes) (fills areas datagram) (inside datagram areas) all) found in
     let offset : datagram_offset areas first.datagram ≡ datagram_offset areas datagram = ap (datagram_offset areas) is.0.number in
     let length : datagram_length areas first.datagram ≡ datagram_length areas datagram = ap (datagram_length areas) is.0.number in
@@ -129,9 +129,9 @@ part-by list datagram (Some first) ascends found =
     same ∙ sym (min-eq_left {n = bytes} {m = datagram_length areas datagram} (omega arith))
 
 datagram_use-part : (list : List Keyed) (datagram : ℕ) → Ascends list
-    → (datagram_use_in (packed opening list) datagram).outputs
-    ≡ min (output_length (packed opening list) - datagram_offset (packed opening list) datagram) (datagram_length (packed opening list) datagram)
-datagram_use-part list datagram ascends = part-by list datagram (find is_input (inside datagram (packed opening list))) ascends refl
+    → (datagram_use_in (packed empty_front list) datagram).outputs
+    ≡ min (output_length (packed empty_front list) - datagram_offset (packed empty_front list) datagram) (datagram_length (packed empty_front list) datagram)
+datagram_use-part list datagram ascends = part-by list datagram (find is_input (inside datagram (packed empty_front list))) ascends refl
 
 -- the table of the first datagrams
 
@@ -151,10 +151,10 @@ pub record IsLoaded (task : ℕ) (areas : List Placed) (count : ℕ) (table : Ta
 min-step : (offset length end : ℕ) → min offset end + min (end - offset) length ≡ min (offset + length) end
 min-step offset length end = omega arith
 
-pub is-loaded : (task : ℕ) (list : List Keyed) (count : ℕ) → Ascends list → IsLoaded task (packed opening list) count (loaded task (packed opening list) count)
+pub is-loaded : (task : ℕ) (list : List Keyed) (count : ℕ) → Ascends list → IsLoaded task (packed empty_front list) count (loaded task (packed empty_front list) count)
 is-loaded task list zero ascends = record { datagrams = refl; bytes = refl; outputs = omega arith }
 is-loaded task list (suc count) ascends =
-    let areas = packed opening list in
+    let areas = packed empty_front list in
     let before = is-loaded task list count ascends in
     let datagram_use = datagram_use_in areas count in
     let part : datagram_use.outputs ≡ min (output_length areas - datagram_offset areas count) (datagram_length areas count) = datagram_use-part list count ascends in

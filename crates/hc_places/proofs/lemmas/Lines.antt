@@ -6,7 +6,7 @@ use Rattle.hc_records.specs.declared.records.Declared.{Declared}
 use Rattle.hc_records.specs.Image.{inside, task_places}
 use Rattle.hc_records.specs.Laws.{LiesInside}
 use Rattle.hc_records.specs.Line.{groups_of, line_from}
-use Rattle.hc_records.specs.Packing.{Placed, opening, packed}
+use Rattle.hc_records.specs.Packing.{Placed, empty_front, packed}
 use Rattle.hc_records.specs.Project.{lowest_fault}
 use Rattle.hc_records.specs.TaskList.{Keyed, task_list}
 use Rattle.hc_records.proofs.lemmas.Inside.{packed-inside}
@@ -43,11 +43,11 @@ unchanged-twice test [] = refl
 unchanged-twice test (x ∷ xs) = unchanged-by (test x) test x (filter test xs) refl (unchanged-twice test xs)
 
 pub datagram-of : (groups : List Declared) (task datagram : ℕ) (areas : List Placed) → lowest_fault (groups_of groups) ≡ None
-    → areas ≡ inside datagram (packed opening (list_by task (areas_by_rank groups))) → IsDatagramOf groups task datagram areas
+    → areas ≡ inside datagram (packed empty_front (list_by task (areas_by_rank groups))) → IsDatagramOf groups task datagram areas
 datagram-of groups task datagram areas none is =
     let line = line_from 1 groups in
     let configurable = project-configurable groups none in
-    let here : areas ≡ inside datagram (task_places task line) = is ∙ ap (λ (list : List Keyed). inside datagram (packed opening list)) (sym (task-listed task groups)) in
+    let here : areas ≡ inside datagram (task_places task line) = is ∙ ap (λ (list : List Keyed). inside datagram (packed empty_front list)) (sym (task-listed task groups)) in
     let own : inside datagram areas ≡ inside datagram (task_places task line) =
     ap (inside datagram) here ∙ unchanged-twice (λ (area : Placed). area.datagram == datagram) (task_places task line) in
     let same : counted_inside datagram areas ≡ counted_inside datagram (task_places task line) = ap (λ (datagram_use : _). datagram_use.expected) (ap datagram_use_of own) in
@@ -56,7 +56,7 @@ datagram-of groups task datagram areas none is =
     let slaves = configurable.few in
     record {
       inside = subst (λ (all : List Placed). All LiesInside all) (sym here)
-          (All-filter (λ area. area.datagram == datagram) LiesInside (task_places task line) (packed-inside opening (task_list task line) (configurable.packable task)));
+          (All-filter (λ area. area.datagram == datagram) LiesInside (task_places task line) (packed-inside empty_front (task_list task line) (configurable.packable task)));
       counted = omega (arith, same, expected, low, slaves);
       datagram_use = ap datagram_use_of own;
     }

@@ -9,7 +9,7 @@ use Rattle.std.proofs.lemmas.List.Sums.{sum_by-le}
 use Rattle.hc_records.specs.Keys.{is_before}
 use Rattle.hc_records.specs.Line.{Member}
 use Rattle.hc_records.specs.TaskList.{Keyed, belongs, keyed, task_list}
-use Rattle.hc_records.specs.Packing.{Placed, opening, packed}
+use Rattle.hc_records.specs.Packing.{Placed, empty_front, packed}
 use Rattle.hc_records.specs.Image.{expected_counter, inside, task_places}
 use Rattle.hc_records.specs.Laws.{Ascends}
 use Rattle.hc_records.proofs.lemmas.Lists.{All-unmap, AllPairs-map, AllPairs-unmap}
@@ -24,10 +24,10 @@ abbrev AreInOrder : List Placed → Type 0
 AreInOrder areas = AllPairs (λ a b. IsTrue (is_before a.key b.key)) areas
 
 -- so do those of the places of a list whose keys ascend
-places-in-order : (list : List Keyed) → Ascends list → AreInOrder (packed opening list)
+places-in-order : (list : List Keyed) → Ascends list → AreInOrder (packed empty_front list)
 places-in-order list ascends =
-    let same = packed-areas opening list in
-    AllPairs-unmap (λ a b. IsTrue (is_before a.0 b.0)) area_of (packed opening list) (rw same ascends)
+    let same = packed-areas empty_front list in
+    AllPairs-unmap (λ a b. IsTrue (is_before a.0 b.0)) area_of (packed empty_front list) (rw same ascends)
 
 keys-ascend : (d : ℕ) (areas : List Placed) → AreInOrder areas → AllPairs (λ a b. IsTrue (is_before a b)) (keys_inside d areas)
 keys-ascend d areas order =
@@ -49,7 +49,7 @@ ranks-listed task line =
 ranks-inside : (task d : ℕ) (line : List Member) → All (λ key. Contains (ranks_of line) key.rank) (keys_inside d (task_places task line))
 ranks-inside task d line =
     let areas = task_places task line in
-    let same = packed-areas opening (task_list task line) in
+    let same = packed-areas empty_front (task_list task line) in
     let placed : All (λ area. Contains (ranks_of line) area.key.rank) areas = All-unmap (λ area. Contains (ranks_of line) area.0.rank) area_of areas (rw same (ranks-listed task line)) in
     All-map (λ key. Contains (ranks_of line) key.rank) (λ (area : Placed). area.key) (inside d areas)
     (All-filter (λ area. area.datagram == d) (λ area. Contains (ranks_of line) area.key.rank) areas placed)

@@ -5,7 +5,7 @@ use Rattle.std.specs.List.{flat_map}
 use Rattle.hc_records.specs.declared.records.Declared.{Declared}
 use Rattle.hc_records.specs.Image.{task_places, task_variables}
 use Rattle.hc_records.specs.Line.{groups_of, line_from}
-use Rattle.hc_records.specs.Packing.{opening}
+use Rattle.hc_records.specs.Packing.{empty_front}
 use Rattle.hc_records.specs.Project.{lowest_fault}
 use Rattle.hc_records.specs.TaskList.{task_areas, task_list}
 use Rattle.hc_records.proofs.lemmas.Packed.{packed-areas}
@@ -20,7 +20,7 @@ pub task-rows : (groups : List Declared) (task : ℕ)
     → flat_map (found_variables task (areas_by_rank groups)) (task_places task (line_from 1 groups)) ≡ task_variables (line_from 1 groups) task
 task-rows groups task =
     let line = line_from 1 groups in
-    found-all task (areas_by_rank groups) (task_areas task line) (task_places task line) (packed-areas opening (task_list task line)) (keys-name groups task)
+    found-all task (areas_by_rank groups) (task_areas task line) (task_places task line) (packed-areas empty_front (task_list task line)) (keys-name groups task)
 
 -- and in a project's line each area that is found suits its place
 pub task-suits : (groups : List Declared) → lowest_fault (groups_of groups) ≡ None → (task : ℕ)
@@ -28,5 +28,5 @@ pub task-suits : (groups : List Declared) → lowest_fault (groups_of groups) �
 task-suits groups none task =
     let line = line_from 1 groups in
     let configurable = project-configurable groups none in
-    suit-all (areas_by_rank groups) (task_areas task line) (task_places task line) (packed-areas opening (task_list task line)) (keys-name groups task)
+    suit-all (areas_by_rank groups) (task_areas task line) (task_places task line) (packed-areas empty_front (task_list task line)) (keys-name groups task)
     (areas-offer task line configurable.offers)

@@ -11,7 +11,7 @@ use Rattle.hc_records.specs.Area.{width}
 use Rattle.hc_records.specs.Image.{task_places}
 use Rattle.hc_records.specs.Keys.{is_before, is_within, same_dir}
 use Rattle.hc_records.specs.Line.{Member, State, line}
-use Rattle.hc_records.specs.Packing.{Placed, opening, packed}
+use Rattle.hc_records.specs.Packing.{Placed, empty_front, packed}
 use Rattle.hc_records.specs.TaskList.{Keyed, task_list}
 use Rattle.hc_records.proofs.lemmas.Ascending.{keys-ascend}
 use Rattle.hc_records.proofs.lemmas.KeyOrder.{before-apart, within-refl}
@@ -59,13 +59,13 @@ named-areas line task =
 pub placed-areas : (line : List Member) (task : ℕ) → All (λ (placed : Placed). HasArea line task (area_of placed)) (task_places task line)
 placed-areas line task =
     All-unmap (HasArea line task) area_of (task_places task line)
-    (subst (All (HasArea line task)) (sym (packed-areas opening (task_list task line))) (named-areas line task))
+    (subst (All (HasArea line task)) (sym (packed-areas empty_front (task_list task line))) (named-areas line task))
 
 pub keys-apart : (state : State) (task : ℕ) → AllPairs (λ (a b : Placed). IsTrue (is_before a.key b.key)) (task_places task (line state))
 keys-apart state task =
     let list = task_list task (line state) in
-    AllPairs-unmap (λ (a b : Keyed). IsTrue (is_before a.0 b.0)) area_of (packed opening list)
-    (subst (AllPairs (λ (a b : Keyed). IsTrue (is_before a.0 b.0))) (sym (packed-areas opening list)) (keys-ascend state task))
+    AllPairs-unmap (λ (a b : Keyed). IsTrue (is_before a.0 b.0)) area_of (packed empty_front list)
+    (subst (AllPairs (λ (a b : Keyed). IsTrue (is_before a.0 b.0))) (sym (packed-areas empty_front list)) (keys-ascend state task))
 
 pub not-before : (a b : Key) → a ≡ b → is_before a b ≡ true → ⊥
 not-before a b same before =

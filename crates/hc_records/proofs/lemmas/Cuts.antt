@@ -5,7 +5,7 @@ use Rattle.std.proofs.lemmas.Bool.Decides.{nat_tests}
 use Rattle.std.proofs.lemmas.List.Elements.{All-head, All-tail}
 use Rattle.hc_records.specs.declared.keys.Key.{Key}
 use Rattle.hc_records.specs.TaskList.{Keyed}
-use Rattle.hc_records.specs.Packing.{Front, Placed, opening, beginning, fits, placed_at, front_with, packed}
+use Rattle.hc_records.specs.Packing.{Front, Placed, empty_front, beginning, fits, placed_at, front_with, packed}
 use Rattle.hc_records.specs.Image.{datagram_count}
 use Rattle.hc_records.specs.Boundaries.{begins_later, later_keys}
 use Rattle.hc_records.specs.Laws.{IsPackable, front_after, cuts_from}
@@ -56,8 +56,8 @@ begun_keys-packed front (area ∷ areas) begun all =
     begun_keys-place (fits front area) front area (packed front' areas) (cuts_from front' areas) begun
     (begun_keys-packed front' areas (after_it-IsBegun front area (All-head IsPackable area areas all).some) (All-tail IsPackable area areas all))
 
-pub later_keys-cuts : (list : List Keyed) → All IsPackable list → later_keys list ≡ cuts_from opening list
-later_keys-cuts list all = begun_keys-packed opening list (inl refl) all
+pub later_keys-cuts : (list : List Keyed) → All IsPackable list → later_keys list ≡ cuts_from empty_front list
+later_keys-cuts list all = begun_keys-packed empty_front list (inl refl) all
 
 -- each cut begins one datagram more
 cut-datagram : (fitting : Bool) (front : Front) (area : Keyed) (keys : List Key) (last : ℕ) → last ≡ (place fitting front area).datagram + length keys →
@@ -71,14 +71,14 @@ cuts-datagram front (area ∷ areas) =
     let front' = front_with (placed_at front area) in
     cut-datagram (fits front area) front area (cuts_from front' areas) (front_after front' areas).datagram (cuts-datagram front' areas)
 
-pub count-cuts : (area : Keyed) (areas : List Keyed) → datagram_count (packed opening (area ∷ areas)) ≡ length (cuts_from opening (area ∷ areas)) + 1
+pub count-cuts : (area : Keyed) (areas : List Keyed) → datagram_count (packed empty_front (area ∷ areas)) ≡ length (cuts_from empty_front (area ∷ areas)) + 1
 count-cuts area areas =
     let last = count-front_after area areas in
-    let cuts = cuts-datagram opening (area ∷ areas) in
+    let cuts = cuts-datagram empty_front (area ∷ areas) in
     omega arith
 
-pub count-later_keys : (area : Keyed) (areas : List Keyed) → All IsPackable (area ∷ areas) → datagram_count (packed opening (area ∷ areas)) ≡ length (later_keys (area ∷ areas)) + 1
+pub count-later_keys : (area : Keyed) (areas : List Keyed) → All IsPackable (area ∷ areas) → datagram_count (packed empty_front (area ∷ areas)) ≡ length (later_keys (area ∷ areas)) + 1
 count-later_keys area areas all =
     let count = count-cuts area areas in
-    let same : length (later_keys (area ∷ areas)) ≡ length (cuts_from opening (area ∷ areas)) = ap length (later_keys-cuts (area ∷ areas) all) in
+    let same : length (later_keys (area ∷ areas)) ≡ length (cuts_from empty_front (area ∷ areas)) = ap length (later_keys-cuts (area ∷ areas) all) in
     omega arith

@@ -8,7 +8,7 @@ use Rattle.hc_records.specs.declared.limits.TheConstants.{MOST_AREA_BITS}
 use Rattle.hc_records.specs.declared.keys.Key.{Key}
 use Rattle.hc_records.specs.Keys.{is_turn}
 use Rattle.hc_records.specs.TaskList.{Keyed}
-use Rattle.hc_records.specs.Packing.{Front, opening, next_byte, beginning, fits, placed_at, front_with, packed}
+use Rattle.hc_records.specs.Packing.{Front, empty_front, next_byte, beginning, fits, placed_at, front_with, packed}
 use Rattle.hc_records.specs.Image.{datagram_count}
 use Rattle.hc_records.specs.Laws.{FitsOneDatagram, front_after, cuts_from}
 use Rattle.hc_records.proofs.lemmas.Packed.{place}
@@ -111,7 +111,7 @@ cut_count-append front (area ∷ first) second =
     count_by-append (fits front area) area.0 (cuts_from front' first) (cuts_from (front_after front' first) second) (cuts_from front' (first ++ second))
     (cut_count (front_after front' first) second) (cut_count-append front' first second)
 
-part-cuts : (part : List Keyed) → FitsOneDatagram part → cut_count opening part ≡ 0
+part-cuts : (part : List Keyed) → FitsOneDatagram part → cut_count empty_front part ≡ 0
 part-cuts [] one = refl
 part-cuts (area ∷ areas) one = let count = count-cuts area areas in omega arith
 
@@ -119,23 +119,23 @@ part-cuts (area ∷ areas) one = let count = count-cuts area areas in omega arit
 abbrev pub joined : List (List Keyed) → List Keyed
 joined parts = flat_map (λ part. part) parts
 
-parts-cuts : (part : List Keyed) (parts : List (List Keyed)) → All FitsOneDatagram (part ∷ parts) → cut_count opening (joined (part ∷ parts)) ≤ length parts
+parts-cuts : (part : List Keyed) (parts : List (List Keyed)) → All FitsOneDatagram (part ∷ parts) → cut_count empty_front (joined (part ∷ parts)) ≤ length parts
 parts-cuts part [] all =
     let here = part-cuts part (All-head FitsOneDatagram part [] all) in
-    let both = cut_count-append opening part [] in
+    let both = cut_count-append empty_front part [] in
     omega arith
 parts-cuts part (next ∷ parts) all =
     let here = part-cuts part (All-head FitsOneDatagram part (next ∷ parts) all) in
-    let both = cut_count-append opening part (joined (next ∷ parts)) in
-    let more = (fewer (joined (next ∷ parts))).any opening (front_after opening part) in
+    let both = cut_count-append empty_front part (joined (next ∷ parts)) in
+    let more = (fewer (joined (next ∷ parts))).any empty_front (front_after empty_front part) in
     let rest = parts-cuts next parts (All-tail FitsOneDatagram part (next ∷ parts) all) in
     omega arith
 
-pub packing-least : (list : List Keyed) (parts : List (List Keyed)) → joined parts ≡ list → All FitsOneDatagram parts → datagram_count (packed opening list) ≤ length parts
+pub packing-least : (list : List Keyed) (parts : List (List Keyed)) → joined parts ≡ list → All FitsOneDatagram parts → datagram_count (packed empty_front list) ≤ length parts
 packing-least [] parts same all = omega arith
 packing-least (area ∷ areas) [] same all = cc
 packing-least (area ∷ areas) (part ∷ parts) same all =
     let count = count-cuts area areas in
-    let cuts : cut_count opening (joined (part ∷ parts)) ≡ cut_count opening (area ∷ areas) = ap (cut_count opening) same in
+    let cuts : cut_count empty_front (joined (part ∷ parts)) ≡ cut_count empty_front (area ∷ areas) = ap (cut_count empty_front) same in
     let few = parts-cuts part parts all in
     omega arith

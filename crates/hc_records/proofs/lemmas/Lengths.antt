@@ -6,7 +6,7 @@ use Rattle.std.proofs.lemmas.List.Elements.{All-head, All-tail, All-filter}
 use Rattle.hc_records.specs.declared.limits.TheConstants.{MOST_AREA_BITS, MOST_DATAGRAM_BYTES}
 use Rattle.hc_records.specs.Keys.{is_turn}
 use Rattle.hc_records.specs.TaskList.{Keyed}
-use Rattle.hc_records.specs.Packing.{Front, Placed, opening, next_byte, beginning, fits, placed_at, front_with, packed}
+use Rattle.hc_records.specs.Packing.{Front, Placed, empty_front, next_byte, beginning, fits, placed_at, front_with, packed}
 use Rattle.hc_records.specs.Image.{inside, end_of, datagram_count, datagram_length}
 use Rattle.hc_records.specs.Laws.{IsPackable, LiesInside, IsDatagramLength, front_after}
 use Rattle.hc_records.proofs.lemmas.Greatest.{greatest, greatest-first, greatest-most}
@@ -51,29 +51,29 @@ first_by : (aligned : Bool) → (if aligned then next_byte 0 else 0) ≡ 0
 first_by true = refl
 first_by false = refl
 
-pub opening-beginning : (area : Keyed) → beginning opening area ≡ 0
-opening-beginning area = first_by (nat_le 8 area.1 || is_turn opening.last area.0.dir)
+pub opening-beginning : (area : Keyed) → beginning empty_front area ≡ 0
+opening-beginning area = first_by (nat_le 8 area.1 || is_turn empty_front.last area.0.dir)
 
-pub opening-fits : (area : Keyed) → area.1 ≤ MOST_AREA_BITS → fits opening area ≡ true
-opening-fits area narrow = let first = opening-beginning area in le-leb (beginning opening area + area.1) MOST_AREA_BITS (omega arith)
+pub opening-fits : (area : Keyed) → area.1 ≤ MOST_AREA_BITS → fits empty_front area ≡ true
+opening-fits area narrow = let first = opening-beginning area in le-leb (beginning empty_front area + area.1) MOST_AREA_BITS (omega arith)
 
-opening-datagram : (area : Keyed) → area.1 ≤ MOST_AREA_BITS → (placed_at opening area).datagram ≡ 0
-opening-datagram area narrow = ap (λ fitting. (place fitting opening area).datagram) (opening-fits area narrow)
+opening-datagram : (area : Keyed) → area.1 ≤ MOST_AREA_BITS → (placed_at empty_front area).datagram ≡ 0
+opening-datagram area narrow = ap (λ fitting. (place fitting empty_front area).datagram) (opening-fits area narrow)
 
 -- each datagram of a list has a bit
-end_of-some : (list : List Keyed) (datagram : ℕ) → All IsPackable list → datagram < datagram_count (packed opening list) → 0 < end_of (inside datagram (packed opening list))
+end_of-some : (list : List Keyed) (datagram : ℕ) → All IsPackable list → datagram < datagram_count (packed empty_front list) → 0 < end_of (inside datagram (packed empty_front list))
 end_of-some [] datagram all within = absurd (omega arith)
 end_of-some (area ∷ areas) zero all within =
     let packable = All-head IsPackable area areas all in
     let narrow = packable.narrow in
     let some = packable.some in
-    let placed = placed_at opening area in
+    let placed = placed_at empty_front area in
     let first : placed.datagram ≡ 0 = opening-datagram area narrow in
-    let bits : placed.bits ≡ area.1 = place-bits (fits opening area) opening area in
+    let bits : placed.bits ≡ area.1 = place-bits (fits empty_front area) empty_front area in
     reached-here (placed.datagram == 0) 0 0 placed (packed (front_with placed) areas) refl (omega arith) (λ other. absurd (other first))
 end_of-some (area ∷ areas) (suc datagram) all within =
     let count = count-front_after area areas in
-    reached-some opening (area ∷ areas) (suc datagram) 0 all (omega arith) (omega arith)
+    reached-some empty_front (area ∷ areas) (suc datagram) 0 all (omega arith) (omega arith)
 
 bytes-some : (end : ℕ) → 0 < end → 1 ≤ (end + 7) / 8
 bytes-some end some = omega arith
@@ -81,11 +81,11 @@ bytes-some end some = omega arith
 bytes-most : (end : ℕ) → end ≤ MOST_AREA_BITS → (end + 7) / 8 ≤ MOST_DATAGRAM_BYTES
 bytes-most end most = omega arith
 
-pub length-sendable : (list : List Keyed) (datagram : ℕ) → All IsPackable list → datagram < datagram_count (packed opening list) →
-    IsDatagramLength (datagram_length (packed opening list) datagram)
+pub length-sendable : (list : List Keyed) (datagram : ℕ) → All IsPackable list → datagram < datagram_count (packed empty_front list) →
+    IsDatagramLength (datagram_length (packed empty_front list) datagram)
 length-sendable list datagram all within =
-    let areas = packed opening list in
-    let lie : All LiesInside (inside datagram areas) = All-filter (λ area. area.datagram == datagram) LiesInside areas (packed-inside opening list all) in
+    let areas = packed empty_front list in
+    let lie : All LiesInside (inside datagram areas) = All-filter (λ area. area.datagram == datagram) LiesInside areas (packed-inside empty_front list all) in
     record {
       some = bytes-some (end_of (inside datagram areas)) (end_of-some list datagram all within);
       most = bytes-most (end_of (inside datagram areas)) (greatest-most bit_after 0 MOST_AREA_BITS (inside datagram areas) (omega arith) lie);

@@ -9,7 +9,7 @@ use Rattle.hc_records.specs.declared.records.Dir.TheVariants.{Out, In}
 use Rattle.hc_records.specs.declared.keys.Key.{Key}
 use Rattle.hc_records.specs.Keys.{same_dir, is_turn, is_before}
 use Rattle.hc_records.specs.TaskList.{Keyed}
-use Rattle.hc_records.specs.Packing.{Front, Placed, opening, fits, placed_at, front_with, packed}
+use Rattle.hc_records.specs.Packing.{Front, Placed, empty_front, fits, placed_at, front_with, packed}
 use Rattle.hc_records.specs.Image.{inside, end_of, datagram_count, datagram_length, datagram_offset, first_byte, image_length, output_length}
 use Rattle.hc_records.specs.Laws.{LiesBefore, Ascends, area_image_bit, KeepsToItsPart}
 use Rattle.hc_records.proofs.lemmas.Lists.{All-from_filter, All-unmap, AllPairs-head, AllPairs-tail, AllPairs-across, AllPairs-append_right}
@@ -176,7 +176,7 @@ parts-keep areas None is pairs outputs = outputs-alone areas (ap (λ found. opti
 parts-keep areas (Some first) is pairs (outputs, inputs, split) =
     split-stays areas outputs inputs first (ap (λ found. option_map_or (first_byte areas) found (image_length areas)) is) pairs split
 
-pub outputs-first : (list : List Keyed) → Ascends list → All (KeepsToItsPart (packed opening list)) (packed opening list)
+pub outputs-first : (list : List Keyed) → Ascends list → All (KeepsToItsPart (packed empty_front list)) (packed empty_front list)
 outputs-first list ascends =
-    let areas = packed opening list in
-    parts-keep areas (first_input areas) refl (all-end-before opening list) (split-packed opening list refl ascends)
+    let areas = packed empty_front list in
+    parts-keep areas (first_input areas) refl (all-end-before empty_front list) (split-packed empty_front list refl ascends)

@@ -10,7 +10,7 @@ use Rattle.hc_records.specs.declared.keys.Key.{Key}
 use Rattle.hc_records.specs.declared.keys.TheConstants.Key.{START, END}
 use Rattle.hc_records.specs.Keys.{same_dir, same_key, is_before, is_within}
 use Rattle.hc_records.specs.TaskList.{Keyed}
-use Rattle.hc_records.specs.Packing.{opening}
+use Rattle.hc_records.specs.Packing.{empty_front}
 use Rattle.hc_records.specs.Boundaries.{Interval, boundaries, hull, is_settled, is_touched, later_keys, meets_hull, spans, touched, widened, width_in}
 use Rattle.hc_records.specs.SpanLaws.{CarriesTheSame, IsTaskList, areas_from, places_in_span, seen_area, span_areas}
 use Rattle.hc_records.proofs.lemmas.KeyOrder.{before-other, other-sym, same_dir-refl, same_key-same, within-else, within-refl}
@@ -150,14 +150,14 @@ span-unchanged list other span is is' contains begins agree =
     let alone' = span-alone other (span.0, last) is' next.1 in
     let agree' : Agree span.0 span.1 (areas_from span.0 list) (areas_from span.0 other) =
     record { at = λ key low high. width-from span.0 list key low ∙ agree.at key low high ∙ sym (width-from span.0 other key low) } in
-    let same = same-cut span.0 span.1 opening (areas_from span.0 list) (areas_from span.0 other) (areas-from span.0 list is) (areas-from span.0 other is') (sym alone.next) agree' in
+    let same = same-cut span.0 span.1 empty_front (areas_from span.0 list) (areas_from span.0 other) (areas-from span.0 list is) (areas-from span.0 other is') (sym alone.next) agree' in
     let end : last ≡ span.1 = alone'.next ∙ same.0 in
     record {
       was_span = subst (λ (key : Key). Contains (spans (boundaries other)) (span.0, key)) end next.1;
       areas =
           alone.areas
           ∙ ap (map seen_area) (sym same.1)
-          ∙ sym (subst (λ (key : Key). span_areas other (span.0, key) ≡ map seen_area (places_in_span opening (areas_from span.0 other))) end alone'.areas);
+          ∙ sym (subst (λ (key : Key). span_areas other (span.0, key) ≡ map seen_area (places_in_span empty_front (areas_from span.0 other))) end alone'.areas);
     }
 
 pub agree-sym : (first last : Key) (xs ys : List Keyed) → Agree first last xs ys → Agree first last ys xs

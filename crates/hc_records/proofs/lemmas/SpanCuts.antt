@@ -8,7 +8,7 @@ use Rattle.hc_records.specs.declared.keys.Key.{Key}
 use Rattle.hc_records.specs.declared.keys.TheConstants.Key.{START, END}
 use Rattle.hc_records.specs.Keys.{is_before, is_within}
 use Rattle.hc_records.specs.TaskList.{Keyed}
-use Rattle.hc_records.specs.Packing.{Front, Placed, opening, fits, placed_at, front_with, packed}
+use Rattle.hc_records.specs.Packing.{Front, Placed, empty_front, fits, placed_at, front_with, packed}
 use Rattle.hc_records.specs.Image.{datagram_count}
 use Rattle.hc_records.specs.Boundaries.{Interval, begins_later, boundaries, spans}
 use Rattle.hc_records.specs.Laws.{IsPackable, cuts_from, front_after, raised}
@@ -76,9 +76,9 @@ span-walk front (first ∷ list) begun span contains =
     let front' = front_with (placed_at front first) in
     walk-by (fits front first) front first list begun span (cuts_from front' list) refl (λ from. span-walk front' list from span) contains
 
-list-span : (list : List Keyed) (span : Interval) → All IsPackable list → Contains (spans (boundaries list)) span → IsSpanOf opening list START span
+list-span : (list : List Keyed) (span : Interval) → All IsPackable list → Contains (spans (boundaries list)) span → IsSpanOf empty_front list START span
 list-span list span all contains =
-    span-walk opening list START span (subst (λ (keys : List Key). Contains (spans_from START keys) span) (later_keys-cuts list all) contains)
+    span-walk empty_front list START span (subst (λ (keys : List Key). Contains (spans_from START keys) span) (later_keys-cuts list all) contains)
 
 -- the areas of a task's list from a key on
 pub areas-from : (first : Key) (list : List Keyed) → IsTaskList list → IsListFrom first (areas_from first list)
@@ -99,13 +99,13 @@ all-from list is =
 pub task-list-from : (list : List Keyed) → IsTaskList list → IsListFrom START list
 task-list-from list is = subst (λ (areas : List Keyed). IsListFrom START areas) (all-from list is) (areas-from START list is)
 
-start-alone : (list : List Keyed) → IsTaskList list → IsCutAlone list (START, next_cut opening list)
+start-alone : (list : List Keyed) → IsTaskList list → IsCutAlone list (START, next_cut empty_front list)
 start-alone list is =
     let whole = all-from list is in record {
-      next = ap (next_cut opening) (sym whole);
+      next = ap (next_cut empty_front) (sym whole);
       areas =
-          ap (map seen_area) (carried-areas (START, next_cut opening list) opening list (task-list-from list is) refl)
-          ∙ ap (λ (areas : List Keyed). map seen_area (places_in_span opening areas)) (sym whole);
+          ap (map seen_area) (carried-areas (START, next_cut empty_front list) empty_front list (task-list-from list is) refl)
+          ∙ ap (λ (areas : List Keyed). map seen_area (places_in_span empty_front areas)) (sym whole);
     }
 
 -- from a cut on they are those that are there
@@ -121,40 +121,40 @@ cut-areas before area after is =
     (All-cons (λ a. is_within area.0 a.0 ≡ true) area after (within-refl area.0)
     (All-weaker (λ a. is_before area.0 a.0 ≡ true) (λ a. is_within area.0 a.0 ≡ true) (λ a high. within-from_before area.0 a.0 high) after higher))
 
-cut-alone : (before : List Keyed) (area : Keyed) (after : List Keyed) → IsTaskList (before ++ area ∷ after) → fits (front_after opening before) area ≡ false →
-    IsCutAlone (before ++ area ∷ after) (area.0, next_cut (front_with (placed_at (front_after opening before) area)) after)
+cut-alone : (before : List Keyed) (area : Keyed) (after : List Keyed) → IsTaskList (before ++ area ∷ after) → fits (front_after empty_front before) area ≡ false →
+    IsCutAlone (before ++ area ∷ after) (area.0, next_cut (front_with (placed_at (front_after empty_front before) area)) after)
 cut-alone before area after is other =
     let list = before ++ area ∷ after in
     let rest = area ∷ after in
-    let front = front_after opening before in
-    let count = datagram_count (packed opening before) in
+    let front = front_after empty_front before in
+    let count = datagram_count (packed empty_front before) in
     let narrow = (All-head IsPackable area after (All-append_right IsPackable before rest is.packable)).narrow in
     let own = cut-areas before area after is in
     let placed = first-raised count front area narrow (before-count before area narrow other) other in
     let end = next_cut (front_with (placed_at front area)) after in
     let span : Interval = (area.0, end) in
-    let alone : end ≡ next_cut opening rest =
+    let alone : end ≡ next_cut empty_front rest =
     ap (λ (p : Placed). next_cut (front_with p) after) placed
-    ∙ cut-raised count (front_with (placed_at opening area)) after
-    ∙ sym (cond-true (fits opening area) (next_cut (front_with (placed_at opening area)) after) area.0 (opening-fits area narrow)) in
+    ∙ cut-raised count (front_with (placed_at empty_front area)) after
+    ∙ sym (cond-true (fits empty_front area) (next_cut (front_with (placed_at empty_front area)) after) area.0 (opening-fits area narrow)) in
     let later : begins_later (placed_at front area) ≡ true = ap (λ fitting. begins_later (place fitting front area)) other ∙ other-begins front area in
     let lower = AllPairs-across (λ a b. IsTrue (is_before a.0 b.0)) before area after is.ascends in
     let list_from = subst (λ (areas : List Keyed). IsListFrom area.0 areas) own (areas-from area.0 list is) in
     record {
-      next = alone ∙ ap (next_cut opening) (sym own);
+      next = alone ∙ ap (next_cut empty_front) (sym own);
       areas =
           ap (λ (places : List Placed). map seen_area (filter (lies_in span) places)) (packed-alone before area after is.packable later)
-          ∙ ap (map seen_area) (filter-append (lies_in span) (packed opening before) (map (raised count) (packed opening rest)))
-          ∙ ap (λ (front : List Placed). map seen_area (front ++ filter (lies_in span) (map (raised count) (packed opening rest))))
-          (drops-after_it span opening before
+          ∙ ap (map seen_area) (filter-append (lies_in span) (packed empty_front before) (map (raised count) (packed empty_front rest)))
+          ∙ ap (λ (front : List Placed). map seen_area (front ++ filter (lies_in span) (map (raised count) (packed empty_front rest))))
+          (drops-after_it span empty_front before
           (All-weaker (λ a. is_before a.0 area.0 ≡ true) (λ a. key_lies_in span a.0 ≡ false)
           (λ a low. and_left (is_within area.0 a.0) (is_before a.0 end) (before-apart a.0 area.0 low)) before lower))
-          ∙ seen-raised span count (packed opening rest)
-          ∙ ap (map seen_area) (carried-areas span opening rest list_from (sym alone))
-          ∙ ap (λ (areas : List Keyed). map seen_area (places_in_span opening areas)) (sym own);
+          ∙ seen-raised span count (packed empty_front rest)
+          ∙ ap (map seen_area) (carried-areas span empty_front rest list_from (sym alone))
+          ∙ ap (λ (areas : List Keyed). map seen_area (places_in_span empty_front areas)) (sym own);
     }
 
-alone-by : (list : List Keyed) (span : Interval) → IsTaskList list → IsSpanOf opening list START span → IsCutAlone list span
+alone-by : (list : List Keyed) (span : Interval) → IsTaskList list → IsSpanOf empty_front list START span → IsCutAlone list span
 alone-by list span is (inl (begun, next)) =
     subst (λ (key : Key). IsCutAlone list (key, span.1)) (sym begun) (subst (λ (key : Key). IsCutAlone list (START, key)) (sym next) (start-alone list is))
 alone-by list span is (inr (before, area, after, at)) =
@@ -167,7 +167,7 @@ pub span-alone : (list : List Keyed) (span : Interval) → IsTaskList list → C
 span-alone list span is contains = alone-by list span is (list-span list span is.packable contains)
 
 -- a span begins before END
-start-before : (list : List Keyed) (span : Interval) → IsTaskList list → IsSpanOf opening list START span → is_before span.0 END ≡ true
+start-before : (list : List Keyed) (span : Interval) → IsTaskList list → IsSpanOf empty_front list START span → is_before span.0 END ≡ true
 start-before list span is (inl (begun, next)) = ap (λ (key : Key). is_before key END) begun
 start-before list span is (inr (before, area, after, at)) =
     let is' = subst (λ (l : List Keyed). IsTaskList l) at.whole is in

@@ -9,7 +9,7 @@ use Rattle.hc_records.specs.declared.keys.Key.{Key}
 use Rattle.hc_records.specs.declared.keys.TheConstants.Key.{START, END}
 use Rattle.hc_records.specs.Keys.{is_before, is_within}
 use Rattle.hc_records.specs.TaskList.{Keyed}
-use Rattle.hc_records.specs.Packing.{Front, Placed, opening, fits, placed_at, front_with, packed}
+use Rattle.hc_records.specs.Packing.{Front, Placed, empty_front, fits, placed_at, front_with, packed}
 use Rattle.hc_records.specs.Image.{inside}
 use Rattle.hc_records.specs.Boundaries.{Interval, boundaries, spans}
 use Rattle.hc_records.specs.Laws.{cuts_from}
@@ -156,9 +156,9 @@ numbered-areas front (area ∷ areas) begun number span is numbered =
     (λ from n is' numbered'. numbered-areas (front_with (placed_at front area)) areas from n span is' numbered')
 
 pub span-datagram : (list : List Keyed) (datagram : ℕ) (span : Interval) → IsTaskList list → slice_get (spans (boundaries list)) datagram ≡ Some span →
-    inside datagram (packed opening list) ≡ filter (lies_in span) (packed opening list)
+    inside datagram (packed empty_front list) ≡ filter (lies_in span) (packed empty_front list)
 span-datagram list datagram span is numbered =
     let sum : 0 + datagram ≡ datagram = omega arith in
-    subst (λ (n : ℕ). IsSame n span (packed opening list)) sum
-    (numbered-areas opening list START datagram span (task-list-from list is)
+    subst (λ (n : ℕ). IsSame n span (packed empty_front list)) sum
+    (numbered-areas empty_front list START datagram span (task-list-from list is)
     (subst (λ (keys : List Key). IsNumbered START keys datagram span) (later_keys-cuts list is.packable) numbered))

@@ -6,7 +6,7 @@ use Rattle.hc_records.specs.declared.limits.TheConstants.{MOST_DATAGRAM_BYTES, M
 use Rattle.hc_records.specs.declared.records.Dir.TheVariants.{In}
 use Rattle.hc_records.specs.Keys.{same_dir}
 use Rattle.hc_records.specs.TaskList.{Keyed}
-use Rattle.hc_records.specs.Packing.{Placed, opening, packed}
+use Rattle.hc_records.specs.Packing.{Placed, empty_front, packed}
 use Rattle.hc_records.specs.Image.{datagram_count, datagram_length, datagram_offset, first_byte, image_length, output_length}
 use Rattle.hc_records.specs.Laws.{IsPackable}
 use Rattle.hc_records.specs.ImageLaws.{TilesImage}
@@ -53,7 +53,7 @@ offset-most areas (suc datagram) short =
     let before = offset-most areas datagram (λ other low. short other (omega arith)) in
     omega arith
 
-pub image-short : (list : List Keyed) → All IsPackable list → datagram_count (packed opening list) ≤ MOST_DATAGRAMS → image_length (packed opening list) ≤ MOST_DATAGRAMS * MOST_DATAGRAM_BYTES
+pub image-short : (list : List Keyed) → All IsPackable list → datagram_count (packed empty_front list) ≤ MOST_DATAGRAMS → image_length (packed empty_front list) ≤ MOST_DATAGRAMS * MOST_DATAGRAM_BYTES
 image-short list all few =
-    let most = offset-most (packed opening list) (datagram_count (packed opening list)) (λ datagram low. (length-sendable list datagram all low).most) in
+    let most = offset-most (packed empty_front list) (datagram_count (packed empty_front list)) (λ datagram low. (length-sendable list datagram all low).most) in
     omega arith

@@ -6,7 +6,7 @@ use Rattle.std.proofs.lemmas.List.Elements.{All-weaker}
 use Rattle.hc_records.specs.Area.{assigned_entries}
 use Rattle.hc_records.specs.Line.{Member, line}
 use Rattle.hc_records.specs.TaskList.{Listed, task_areas, task_list}
-use Rattle.hc_records.specs.Packing.{Placed, opening}
+use Rattle.hc_records.specs.Packing.{Placed, empty_front}
 use Rattle.hc_records.specs.Image.{VariablePlace, area_variables, task_places, task_variables, tasks, variable_place, variables_from}
 use Rattle.hc_records.specs.Laws.{LiesBefore}
 use Rattle.hc_records.specs.ImageLaws.{SharesNoBit}
@@ -73,7 +73,7 @@ task-apart line task =
     (λ i j d lower within. record {
       first = pairs-placed line task i d (omega arith);
       second = pairs-placed line task j d within;
-      before = zip-pairs LiesBefore (task_areas task line) (task_places task line) (packed-apart opening (task_list task line)) i j d lower within;
+      before = zip-pairs LiesBefore (task_areas task line) (task_places task line) (packed-apart empty_front (task_list task line)) i j d lower within;
     })
 
 of-task : (line : List Member) (task : ℕ) → All (λ variable. variable.1.task ≡ task) (task_variables line task)

@@ -10,7 +10,7 @@ use Rattle.hc_records.specs.declared.limits.TheConstants.{TASKS}
 use Rattle.hc_records.specs.Area.{Entry, assigned_entries, entry_bits, width}
 use Rattle.hc_records.specs.Line.{Member}
 use Rattle.hc_records.specs.TaskList.{Listed, keyed, task_areas}
-use Rattle.hc_records.specs.Packing.{Front, Placed, fits, opening, packed, placed_at, front_with}
+use Rattle.hc_records.specs.Packing.{Front, Placed, fits, empty_front, packed, placed_at, front_with}
 use Rattle.hc_records.specs.Image.{VariablePlace, area_variables, task_places, task_variables, tasks, variables_from}
 use Rattle.hc_records.proofs.lemmas.Finds.{all-tasks}
 use Rattle.hc_records.proofs.lemmas.Lists.{All-flat_map, AllPairs-append, AllPairs-head, AllPairs-nil, AllPairs-tail}
@@ -101,7 +101,7 @@ abbrev pub task_pairs : List Member → ℕ → List (Listed × Placed)
 task_pairs line task = zip (task_areas task line) (task_places task line)
 
 pub pairs-placed : (line : List Member) (task : ℕ) → All IsPlaced (task_pairs line task)
-pairs-placed line task = zip-placed opening (task_areas task line)
+pairs-placed line task = zip-placed empty_front (task_areas task line)
 
 -- the place of an area's variable
 abbrev pub place_of : ℕ → Listed × Placed → ℕ × (ℕ × ℕ) → VariablePlace

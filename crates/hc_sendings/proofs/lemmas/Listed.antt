@@ -12,7 +12,7 @@ use Rattle.hc_records.specs.Area.{width}
 use Rattle.hc_records.specs.Keys.{same_dir}
 use Rattle.hc_records.specs.Limits.{IsAreaInside, IsSlaveInside}
 use Rattle.hc_records.specs.Line.{Member, State, groups_of, line}
-use Rattle.hc_records.specs.Packing.{opening, packed}
+use Rattle.hc_records.specs.Packing.{empty_front, packed}
 use Rattle.hc_records.specs.Project.{lowest_fault}
 use Rattle.hc_records.specs.TaskList.{Keyed, belongs, task_list}
 use Rattle.hc_records.proofs.lemmas.Lists.{All-enumerate_from}
@@ -75,7 +75,7 @@ all-listed : (state : State) (task : ℕ) → lowest_fault (groups_of state.grou
 all-listed state task none (inl low) = task-listed (line state) task low
 all-listed state task none (inr high) =
     further-none (line state) task high
-    ∙ sym (ap (λ (list : List Keyed). map (datagram_of (line state) task) (range_with_len 0 (datagram_count (packed opening list)))) (further-empty state task none high))
+    ∙ sym (ap (λ (list : List Keyed). map (datagram_of (line state) task) (range_with_len 0 (datagram_count (packed empty_front list)))) (further-empty state task none high))
 
 -- so of a project all datagrams are listed, whatever the task's number
 project-listed : (state : State) (task : ℕ) → lowest_fault (groups_of state.groups) ≡ None → datagrams_in (table_of (line state)) task ≡ Numbered (line state) task
@@ -99,7 +99,7 @@ listed-length state task number datagrams other none is inside =
 
 -- a task with a datagram is one of the eight
 none_counted : (state : State) (task : ℕ) → lowest_fault (groups_of state.groups) ≡ None → TASKS ≤ task → datagram_count (task_places task (line state)) ≡ 0
-none_counted state task none high = ap (λ (list : List Keyed). datagram_count (packed opening list)) (further-empty state task none high)
+none_counted state task none high = ap (λ (list : List Keyed). datagram_count (packed empty_front list)) (further-empty state task none high)
 
 low_or_none : (state : State) (task number : ℕ) → lowest_fault (groups_of state.groups) ≡ None → number < datagram_count (task_places task (line state)) → (task < TASKS) ⊎ (TASKS ≤ task) → task < TASKS
 low_or_none state task number none is_placed (inl low) = low

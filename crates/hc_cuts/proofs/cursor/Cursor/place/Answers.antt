@@ -1,12 +1,12 @@
 use Rattle.std.proofs.Common.{sym, ◌∙◌, arith}
-use Rattle.hc_records.specs.Packing.{opening}
+use Rattle.hc_records.specs.Packing.{empty_front}
 use Rattle.hc_cuts.proofs.Cursors.{GoesOn, goes-on}
 use Rattle.hc_cuts.proofs.Placed.{none-found}
 use Rattle.hc_cuts.proofs.cursor.Cursor.place.Goals as goal
 
 pub returns-then-bits-eq0-clause-place : goal.returns-then-bits-eq0-clause-place
 returns-then-bits-eq0-clause-place c =
-    sym (none-found c.args.key opening c.args.task.now.list c.requires.holds.list.packable (sym c.bits-bits.ensures.width ∙ c.if-bits-eq0.true))
+    sym (none-found c.args.key empty_front c.args.task.now.list c.requires.holds.list.packable (sym c.bits-bits.ensures.width ∙ c.if-bits-eq0.true))
 
 pub filled-requires : goal.filled-requires
 filled-requires c =

@@ -3,7 +3,7 @@ use Rattle.std.specs.Prelude.{slice_get}
 use Rattle.hc_records.specs.declared.keys.TheConstants.Key.{START}
 use Rattle.hc_records.specs.Boundaries.{boundaries, spans}
 use Rattle.hc_records.specs.Image.{inside}
-use Rattle.hc_records.specs.Packing.{Placed, opening, packed}
+use Rattle.hc_records.specs.Packing.{Placed, empty_front, packed}
 use Rattle.hc_cuts.specs.Starts.{TaskCuts}
 use Rattle.hc_cuts.specs.Walk.{span_places}
 use Rattle.hc_cuts.proofs.Whole.{after_it-starts, is-span_at, own-boundaries}
@@ -30,4 +30,4 @@ returns c =
     c.in_ok-add_span.ensures
     ∙ ap (λ (before : List Placed). before ++ span_places c.args.number from tree.list) c.new-places.ensures.items
     ∙ span-inside tree.list c.args.number (from, c.end_of.result) c.self.invariant.list numbered
-    ∙ ap (λ (unchanged : TaskCuts). inside c.args.number (packed opening unchanged.tree.list)) c.self.view_is
+    ∙ ap (λ (unchanged : TaskCuts). inside c.args.number (packed empty_front unchanged.tree.list)) c.self.view_is
