@@ -42,7 +42,7 @@ pub fn line_over_limit(alloc: Global, slaves: u32) -> Result<Project, AllocError
     project_of(alloc, &[&text]).ok_or(AllocError)
 }
 
-/// Why the over its limit line isn't opened; none where it is.
+/// The fault by which the line is refused. None if it is opened.
 fn refusal<R: Wait>(rt: &R, alloc: Global, slaves: u32) -> Result<Option<OpenFault>, AllocError> {
     match open(rt, alloc, line_over_limit(alloc, slaves)?) {
         Ok((conductor, _)) => {
@@ -53,7 +53,7 @@ fn refusal<R: Wait>(rt: &R, alloc: Global, slaves: u32) -> Result<Option<OpenFau
     }
 }
 
-/// Sixteen datagrams are a task's most. Where two tasks need one more, the lower one is reported.
+/// A task has at most sixteen datagrams. If two tasks need one more, the lower one is reported.
 #[test]
 fn a_over_limit_project_names_its_lowest_task(rt: HostRuntime) -> Result<(), Fail> {
     let alloc = rt.alloc();

@@ -1,4 +1,4 @@
-//! What comes of a task's posts, sendings and answers with its seat beside them: rows worked out by hand.
+//! Results of a task's posts, sendings and answers with its seat beside them: rows worked out by hand.
 use crate::lines::{first_two, opened};
 use crate::posting::{Unposted, accepted, post};
 use crate::rows::Moment;
@@ -118,7 +118,7 @@ const ROWS: [&[Step]; 5] = [
     ],
 ];
 
-/// The number of the first step that doesn't come so, from the axis' opening on.
+/// The number of the first step with another result, from the axis' opening on. The number of steps if there is none.
 fn wrong_step<R: Wait>(rt: &R, alloc: Global, steps: &[Step]) -> Option<usize> {
     let Some((mut conductor, seats)) = opened(rt, alloc) else {
         return None;
@@ -139,7 +139,7 @@ fn steps_come_as_worked_out(rt: HostRuntime) {
     }
 }
 
-/// What comes of five posts, of taking them, and of one more that is taken.
+/// The results of five posts, of taking them, of one more post, and of taking it.
 type Five = (
     [Result<(), Unposted>; 5],
     Taken,

@@ -158,7 +158,7 @@ const FORGOTTEN: &[Row] = &[
     ),
 ];
 
-/// All of them, each from the line's opening on.
+/// The lines of these rows, each from its opening on.
 const LINES: &[Case] = &[
     (AXIS, &[Rows(TWO_FRAMES), Rows(IN_ORDER)]),
     (AXIS, &[Rows(TWO_FRAMES), Rows(IN_REVERSE)]),
@@ -213,7 +213,7 @@ fn send_all(driven: &mut Driven, alloc: Global) -> Result<Vec<Vec<u8>>, AllocErr
     Ok(frames)
 }
 
-/// Answers the frames, the last one first, and says how many blocks were confirmed.
+/// Answers the frames, the last one first, and returns the number of confirmed blocks.
 fn answer_in_reverse(
     driven: &mut Driven,
     alloc: Global,

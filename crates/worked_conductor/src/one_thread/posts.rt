@@ -1,4 +1,4 @@
-//! What comes of posts in one thread: rows worked out by hand.
+//! Results of posts in one thread: rows worked out by hand.
 use crate::one_thread::steps::Step::{Exchange, Post, Publish, Remap, Take, Write};
 use crate::one_thread::steps::{Step, wrong_step};
 use hc_conductor::one_thread::refusals::PostRefusal::{
