@@ -70,8 +70,8 @@ group = [
 /// The four blocks of the gripper.
 const FOUR: &[(u16, u8)] = &[(1001, 0), (1001, 1), (1001, 2), (1001, 3)];
 
-/// A declared group is absent until it is connected, and is after the others then. What it has is taken from then on,
-/// present or not.
+/// A declared group is absent until it is connected, and is after the others then. Its alias, stations and variables are taken
+/// from its declaration on, present or not.
 const DECLARED: &[Step] = &[
     Connect(100, Ok((1, 1, 2, FOUR))),
     Declare(FEEDER, Ok((2, 0, 0, &[]))),
@@ -120,7 +120,7 @@ fn bare_groups(alloc: Global, first: u16, last: u16) -> Result<String, AllocErro
     Ok(text)
 }
 
-/// The fault of declaring such a group with an alias; none where it is declared.
+/// The fault of declaring such a group with an alias. None if it is declared.
 fn fault_of(plan: &mut Plan, alloc: Global, alias: u16) -> Result<Option<EditFault>, Fail>
     requires { alias < 10000 }
 {

@@ -101,7 +101,7 @@ const SMALL: &[Width] = &[(Dir::Out, 8 * 700)];
 /// The areas of a slave with an output area of 1,400 bytes.
 const FULL: &[Width] = &[(Dir::Out, 8 * 1400)];
 
-/// The slaves of a line, the datagrams of task 0, and its bytes of outputs and inputs; none where it has too many.
+/// The slaves of a line, the datagrams of task 0, and its bytes of outputs and inputs. None if it has too many datagrams.
 type Line = (
     &'static [&'static [Width]],
     Option<(&'static [Wanted], (u16, u16))>,
@@ -183,7 +183,7 @@ const LINES: &[Line] = &[
     (&[FULL; 17], None),
 ];
 
-/// Whether a line has its datagrams, or is refused since task 0 needs too many.
+/// True if a line has its datagrams, or is refused since task 0 needs too many.
 fn is_packed(alloc: Global, line: &Line) -> Result<bool, Refused> {
     match (plan_of_widths(alloc, line.0), line.1) {
         (Ok(plan), Some(wanted)) => {
@@ -195,7 +195,7 @@ fn is_packed(alloc: Global, line: &Line) -> Result<bool, Refused> {
     }
 }
 
-/// The number of the first line that isn't; none where all are.
+/// The number of the first line with another result. None if there is none.
 fn first_unpacked(alloc: Global) -> Result<Option<usize>, Refused> {
     let mut number = 0_usize;
     for line in LINES {

@@ -93,7 +93,7 @@ const ROWS: [Row; 20] = [
         counter: 1,
         unchanged: [(0x1000, 0x5a), (0x1001, 0)],
     },
-    // where two read FMMUs meet the lower number decides
+    // if two read FMMUs pair one logical bit, the lower number decides
     Row {
         blocks: [
             [0, 0, 0, 1, 1, 0, 0, 3, 0, 0x10, 0, 1, 1, 0, 0, 0],
@@ -105,7 +105,7 @@ const ROWS: [Row; 20] = [
         counter: 1,
         unchanged: [(0x1000, 0x05), (0x1001, 0xf0)],
     },
-    // where two write FMMUs meet the lower number decides
+    // if two write FMMUs pair one bit of memory, the lower number decides
     Row {
         blocks: [
             [1, 0, 0, 1, 1, 0, 0, 3, 0, 0x10, 0, 2, 1, 0, 0, 0],
@@ -117,7 +117,7 @@ const ROWS: [Row; 20] = [
         counter: 2,
         unchanged: [(0x1000, 0x14), (0x1001, 0)],
     },
-    // a lower read FMMU whose pair lies past memory doesn't decide
+    // a lower read FMMU whose pair lies past memory does not decide
     Row {
         blocks: [
             [0, 0, 0, 1, 2, 0, 0, 7, 0xff, 0x2f, 0, 1, 1, 0, 0, 0],
@@ -162,7 +162,7 @@ const ROWS: [Row; 20] = [
         counter: 3,
         unchanged: [(0x1000, 0x12), (0x1001, 0)],
     },
-    // pairs past memory don't count
+    // pairs past memory do not count
     Row {
         blocks: [[0, 0, 0, 1, 2, 0, 0, 7, 0xff, 0x2f, 0, 2, 1, 0, 0, 0], NONE],
         memory: [(0x2fff, 0), (0x0000, 0)],
@@ -217,7 +217,7 @@ const ROWS: [Row; 20] = [
         counter: 2,
         unchanged: [(0x0011, 0x12), (0x0012, 100)],
     },
-    // its high byte, and the byte after it
+    // the alias's high byte, and the byte after it
     Row {
         blocks: [[0, 0, 0, 1, 2, 0, 0, 7, 0x13, 0, 0, 2, 1, 0, 0, 0], NONE],
         memory: [(0x0011, 7), (0x0014, 8)],
@@ -226,7 +226,7 @@ const ROWS: [Row; 20] = [
         counter: 2,
         unchanged: [(0x0013, 0), (0x0014, 0x34)],
     },
-    // it alone: the write counts all the same
+    // the alias alone: the write counts all the same
     Row {
         blocks: [[0, 0, 0, 1, 2, 0, 0, 7, 0x12, 0, 0, 2, 1, 0, 0, 0], NONE],
         memory: [(0x0011, 7), (0x0014, 8)],
@@ -237,7 +237,8 @@ const ROWS: [Row; 20] = [
     },
 ];
 
-/// The number of the first row whose datagram a machine doesn't answer so. Each has a machine of its own, with the alias 100.
+/// The number of the first row with another result. None if there is none. Each row has a machine of its own, with the alias
+/// 100.
 fn first_wrong_row(alloc: Global, rows: &[Row]) -> Result<Option<usize>, AllocError> {
     for (number, row) in rows.iter().enumerate() {
         let mut machine = SlaveMachine::new(alloc, 100)?;

@@ -81,7 +81,7 @@ fn area(alloc: Global, row: &Row) -> Result<Area, AllocError> {
     })
 }
 
-/// Whether an area has a row's blocks.
+/// True if an area has a row's blocks.
 fn has_blocks(area: &Area, row: &Row) -> bool {
     let width = area.width_with(area.assigned.as_slice());
     if width > 64 || row.3 > 64 {

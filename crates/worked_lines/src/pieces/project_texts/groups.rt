@@ -81,8 +81,7 @@ fn texts_of_no_single_group(rt: HostRuntime) {
     }
 }
 
-/// With ample memory the group, and where a growth is refused no other fault: this test also runs with
-/// each growth refused in turn.
+/// The text of a group is read, or fails with `Memory` and with no other fault.
 #[test]
 fn group_or_memory(rt: HostRuntime) {
     match read_group(rt.alloc(), TOOL.as_bytes()) {
