@@ -1,4 +1,4 @@
--- Frames of logical datagrams through the machines of a line, and their working counters. Each law is the contract of a function of `laws`.
+-- Laws of frames of logical datagrams through the machines of a line, and of their working counters. Each is the contract of a function of `carrying_laws`.
 use Rattle.std.specs.Prelude.{◌≡◌, All, None, ℕ, ◌*◌, ◌%◌, List, [], ◌∷◌, length, map}
 use Rattle.hc_records.specs.AddressLaws.{LineHasDatagram}
 use Rattle.hc_records.specs.Image.{datagram_length, expected_counter, logical_address, task_places}
@@ -25,7 +25,7 @@ LogicalFramesPass =
     (machines : List (List ℕ)) (serial address : ℕ) (bytes : List ℕ) → All (λ m. length m ≡ MEMORY_BYTES) machines → CanBeCarried serial (sent_on_wire (lrw address bytes) ∷ [])
     → PassesLogical machines serial address bytes (frame_text serial (lrw address bytes ∷ []))
 
--- what the machines of a programmed line add to the working counter of a datagram of a task is the expected counter
+-- the machines of a programmed line add to the working counter of a task's datagram the expected counter
 abbrev pub CountersAreExpected : Type 0
 CountersAreExpected =
     (state : State) (machines : List (List ℕ)) (task datagram : ℕ) → IsConfigurable state → AreProgrammed (line state) machines → LineHasDatagram (line state) task datagram
@@ -40,7 +40,7 @@ pub record Addressed : Type 0 where
 abbrev pub logical_of : Addressed → Logical
 logical_of d = record { from = 8 * d.address; bytes = d.bytes }
 
--- the datagrams as they come back where each goes through machines in a frame of its own, one after another
+-- the datagrams as they come back if each goes through machines in a frame of its own, one after another
 abbrev pub datagrams_after_machines : List (List ℕ) → List Addressed → List WireDatagram
 datagrams_after_machines machines [] = []
 datagrams_after_machines machines (d ∷ ds) =

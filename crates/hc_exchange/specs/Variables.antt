@@ -1,4 +1,4 @@
--- Where the variables of a line are in its slaves' memory.
+-- The places of a line's variables in its slaves' memory.
 use Rattle.std.specs.Prelude.{◌≡◌, ℕ, ◌+◌, ◌*◌, ◌<◌, Contains, List, Some, slice_get}
 use Rattle.hc_records.specs.declared.records.Area.{Area}
 use Rattle.hc_records.specs.Area.{assigned_entries}
@@ -19,7 +19,7 @@ pub record IsCarried (line : List Member) (variable : ℕ) (place : VariablePlac
   pub pairs : (k : ℕ) → k < place.bits
       → LinePairsIn line place.dir member.slave.station (8 * logical_address place.task place.datagram + place.bit + k) (8 * area.phys + offset + k)
 
--- so does each variable of a line
+-- each variable of a line that has a place is carried
 abbrev pub VariablesAreCarried : Type 0
 VariablesAreCarried =
     (state : State) (variable : ℕ) (place : VariablePlace) → IsConfigurable state → variable_place variable (line state) ≡ Some place → IsCarried (line state) variable place

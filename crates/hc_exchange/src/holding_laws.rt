@@ -1,5 +1,5 @@
-//! What the slave machines hold of a record's registers, and which tasks they carry: each function here does nothing, and its
-//! contract is a law. Nobody calls it.
+//! Laws of the registers that slave machines hold by a record, and of the tasks that they carry: each function here does
+//! nothing, and its contract is a law. Nobody calls it.
 ghost use Rattle.hc_exchange.specs.Holding.{ReadyTasksAreCarried, RecordsAreConfigurable};
 ghost use Rattle.hc_exchange.specs.ReadyFrames.{ReadyFramesComeBackGood};
 ghost use Rattle.hc_exchange.specs.Runs.{EntriesKeepRegisters, RunsHoldRegisters, TakenWritesAreHeld};

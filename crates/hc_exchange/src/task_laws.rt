@@ -1,5 +1,5 @@
-//! What the machines of a wire make of the datagrams that they carry, whatever their other FMMUs pair: each function here does
-//! nothing, and its contract is a law. Nobody calls it.
+//! Laws of the datagrams that the machines of a wire carry, whatever their other FMMUs pair: each function here does nothing,
+//! and its contract is a law. Nobody calls it.
 ghost use Rattle.hc_exchange.specs.AskedLaws.{AllAskedInputsAreBroughtBack, AllAskedOutputsArrive, AskedInputsAreBroughtBack, AskedOutputsArrive, HoldsForTasks, LessAskedCarries, LinesStayCarrying, MemoryBesideAllAskedStays, MemoryBesideAskedStays, OtherAskedBitsComeBack, ProgrammedLinesCarry, SequencesKeepCarrying, TaskCountersAreExpected};
 ghost use Rattle.hc_exchange.specs.TaskBlocks.{FreshMachinesPass, TaskBlocksCarry, WritingCarriesTheTask};
 ghost use Rattle.hc_exchange.specs.WireLaws.{OutsidersPassDatagrams, WiresStayCarrying};

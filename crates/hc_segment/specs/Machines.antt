@@ -35,7 +35,7 @@ opened_machines groups = flat_map machines_of groups
 abbrev pub has_alias : ℕ → Declared → Bool
 has_alias alias declared = declared.group.alias == alias
 
--- how many slaves of the line are before the group with the alias
+-- the number of slaves of the line before the group with the alias
 abbrev pub slaves_before : ℕ → List Declared → ℕ
 slaves_before alias [] = 0
 slaves_before alias (declared ∷ groups) =
