@@ -12,9 +12,9 @@ use hc_rings::{NoSpare, PostFault};
 pub enum Unposted {
     /// No buffer is free.
     NoSpare,
-    /// The outputs that are lent aren't one byte that is 0.
+    /// The held outputs are not one byte that is 0.
     NotBlank,
-    /// The post isn't made.
+    /// The post is not made.
     Fault(PostFault),
 }
 

@@ -79,8 +79,8 @@ fn give_back(driven: &mut Driven, alloc: Global, buffers: usize) -> Result<(), A
     Ok(())
 }
 
-/// An answer takes memory of its own if no buffer came back. Of 130 buffers that come back 128 are kept, and each holds the data
-/// of one answer.
+/// An answer allocates its own memory if no buffer came back. Of 130 buffers that come back 128 are kept, and each holds the
+/// data of one answer.
 #[test]
 fn answers_use_the_buffers_that_came_back(rt: HostRuntime) -> Result<(), Fail> {
     let alloc = rt.alloc();
@@ -113,7 +113,7 @@ fn changes_use_the_list_that_was_handed_in(rt: HostRuntime) -> Result<(), Fail> 
     Ok(())
 }
 
-/// Sends the axis's task so many times, and returns whether each sending was answered with its frame.
+/// Sends the axis's task `times` times. True if each sending was answered with its frame.
 fn send_often(driven: &mut Driven, alloc: Global, times: usize) -> Result<bool, AllocError> {
     for _ in 0..times {
         if !matches!(driven.put(alloc, Event::SendTasks(&[0]))?, Answer::Sent(_)) {

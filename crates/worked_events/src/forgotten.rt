@@ -56,7 +56,7 @@ const GOES_ON: &[Row] = &[
     (Post(0, 0, &[3]), Wanted::Posted),
 ];
 
-/// The tool comes; before, it isn't in the line.
+/// The tool is connected. Before that it is not in the line.
 const TOOL_COMES: &[Row] = &[
     (Forget(1002), Wanted::Refused(CoreFault::Absent)),
     (Connect(5), Wanted::Edited(1, 1, 3)),

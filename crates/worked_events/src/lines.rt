@@ -179,7 +179,8 @@ fn answer_write(frame: &mut [u8]) {
     }
 }
 
-/// Writes the next owed block, and answers it. False if no block is owed, or its answer is not taken as the confirmation.
+/// Writes the next owed block, and hands its answer in. False if no block is owed, or the answer is not taken as the
+/// confirmation.
 pub fn write_one(driven: &mut Driven, alloc: Global) -> Result<bool, AllocError> {
     let sent = driven.put(alloc, Event::SendWrite)?;
     let Answer::WriteSent(text) = sent else {

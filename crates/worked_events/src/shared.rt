@@ -66,8 +66,8 @@ const TOGETHER: &[Row] = &[
     (Read(1), Wanted::Image(1, &[None])),
 ];
 
-/// A datagram that was sent again is stale in the older frame, and the other one isn't. A frame whose datagrams are
-/// exchanged, left out or repeated answers nothing and uses up nothing.
+/// A datagram that was sent again is stale in the older frame, and the other one is not. A frame whose datagrams are exchanged,
+/// left out or repeated answers nothing and uses up nothing.
 const SENT_AGAIN: &[Row] = &[
     (
         Send(&[0, 1]),

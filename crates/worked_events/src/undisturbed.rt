@@ -1,5 +1,5 @@
-//! Steady data, steady posts and task epochs over edits, worked out by hand: a tool that comes in a task of its own is not
-//! noticed by the axis, and a move of the axis' inputs is.
+//! Steady data, steady posts and task epochs over edits, worked out by hand. A tool that comes in a task of its own changes
+//! nothing for the axis, and a move of the axis' inputs does.
 use crate::answers::ANSWERED;
 use crate::asked::Asked::{
     Clear, Comes, Connect, Move, Post, PostSteady, Read, ReadSteady, Send, SendReady,

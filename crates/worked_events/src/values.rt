@@ -9,10 +9,10 @@ use hc_events::faults::CoreFault;
 use hc_frames::Command::{Fpwr, Lrw};
 use std::test::Fail;
 
-/// The axis' outputs, posted as 2, move to task 1, whose first datagram has the logical address 0x0200_0000. Both
-/// tasks have other widths, so the one span of each is recut; both FMMUs' blocks have other bytes, since the
-/// inputs now begin their datagram. The value goes with the variable. It is 0 once the variable had no place in
-/// between, though the blocks, which weren't written meanwhile, are known as they were.
+/// The axis' outputs, posted as 2, move to task 1, whose first datagram has the logical address 0x0200_0000. Both tasks have
+/// other widths, so the one span of each is recut. Both FMMUs' blocks have other bytes, since the inputs now begin their
+/// datagram. The value goes with the variable. It is 0 once the variable had no place in between, though the blocks, which were
+/// not written meanwhile, are known as they were.
 const MOVED: &[Row] = &[
     (Post(0, 0, &[2]), Wanted::Posted),
     (Post(0, 0, &[2, 0]), Wanted::Refused(CoreFault::PostLength)),
@@ -225,9 +225,9 @@ slave = [
 ]
 "#;
 
-/// The values 1 and 2 change their places with the PDOs, which changes no block. Without the first PDO the area is
-/// narrower, so its span is recut and the last bit in the FMMU's block is another; the second one's value stays, and
-/// the first one's is 0 when it comes again.
+/// The values 1 and 2 change their places with the PDOs, which changes no block. Without the first PDO the area is narrower, so
+/// its span is recut and the last bit in the FMMU's block is another. The second value stays, and the first one is 0 when its
+/// PDO is assigned again.
 const EXCHANGED: &[Row] = &[
     (Post(0, 0, &[0x21]), Wanted::Posted),
     (
@@ -291,7 +291,7 @@ slave = [
 ]
 "#;
 
-/// The gap is never sent as posted, and what comes back for the inputs isn't sent out again. The slave reads and
+/// The gap is never sent as posted, and the bytes that come back for the inputs are not sent out again. The slave reads and
 /// writes: a counter of 3.
 const GAP: &[Row] = &[
     (

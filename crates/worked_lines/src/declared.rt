@@ -96,7 +96,7 @@ fn a_declared_group_comes_when_it_is_connected(rt: HostRuntime) -> Result<(), Fa
     Ok(())
 }
 
-/// A project of so many mandatory slaves without areas.
+/// A project of `count` mandatory slaves without areas.
 fn bare_slaves(alloc: Global, count: u16) -> Result<String, AllocError> {
     let mut text = String::new(alloc);
     for station in 1..=count {

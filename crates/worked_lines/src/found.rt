@@ -7,8 +7,8 @@ use hc_records::faults::EditFault;
 use std::alloc::{AllocError, Global};
 use std::test::Fail;
 
-/// A line whose station addresses don't ascend, with slaves of none to three areas: two mandatory ones,
-/// and groups of two, of one and of one.
+/// A line whose station addresses do not ascend, with slaves of none to three areas: two mandatory ones, and groups of two, of
+/// one and of one.
 const MIXED: &str = r#"
 slave = [
   { station = 40, area = [

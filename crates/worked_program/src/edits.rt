@@ -27,7 +27,7 @@ assigned = [1]
 pdo = [{ index = 1, entries = [[0, 1]] }]
 "#;
 
-/// Connects and disconnects a group, the mandatory one and one that isn't declared.
+/// Connects and disconnects a group, the mandatory one and one that is not declared.
 const COMES_AND_GOES: &str = "%%
 connect 100
 connect 100
@@ -112,7 +112,7 @@ task 0 parts 1 2
 datagram 0 address 0x01000000 length 3 expected 3
 ";
 
-/// An absent slave isn't edited.
+/// An absent slave is not edited.
 const ABSENT: &str = "%%\nremap 1001 0\nmove 1001 0 1\nlayout\n";
 
 /// The output of the edits of an absent slave.

@@ -1,5 +1,5 @@
-//! Runs that write register blocks, send tasks, take what comes back, and read. Each frame was worked out from the
-//! tables of the standard (ETG.1000.4, 5.3 and 5.4) and from where the areas of the one slave are.
+//! Runs that write register blocks, send tasks, take the frames that come back, and read. Each frame was worked out from the
+//! tables of the standard (ETG.1000.4, 5.3 and 5.4) and from the places of the one slave's areas.
 use crate::printed::ONE_SLAVE;
 use crate::rows::{Run, first_wrong};
 use std::test::Fail;
@@ -291,9 +291,9 @@ sent 4: ffffffffffff02000000000488a4ee120c0400000001e2020000<zeros 740>
 sent 5: ffffffffffff02000000000588a4ed120c0500000002e1020000<zeros 739>
 ";
 
-/// Blocks are written; a missed write is sent again; a sending is answered once; an edit ends what is awaited; an area moves to
-/// another task; two tasks share a frame; frames that cannot be read are refused. A full frame carries two tasks, and a byte
-/// too long begins another. An index comes again with another serial.
+/// Blocks are written, a missed write is sent again, and a sending is answered once. An edit ends what is awaited, and an area
+/// moves to another task. Two tasks share a frame, and frames that cannot be read are refused. A full frame carries two tasks,
+/// and a byte too long begins another. An index comes again with another serial.
 const RUNS: &[Run] = &[
     (&[ONE_SLAVE, "%%\n", TOO_EARLY], 0, &[TOO_EARLY_TEXT]),
     (&[ONE_SLAVE, "%%\n", MISSED], 0, &[MISSED_TEXT]),

@@ -5,9 +5,9 @@ use std::sync::Wait;
 use std::test::Fail;
 use std::thread::Threads;
 
-/// A run: the pieces of its input, its status, and the pieces of its text. A piece may have marks, which are written out:
-/// `<entries N>`, `<pdos N>` and `<slaves A B T N>` have N bits, `<groups A B>` have a slave each, `<zeros N>` are N bytes
-/// 0, and `<sends A B>` and `<sent A B>` are sendings of the task of `ONE_SLAVE`, and what they print.
+/// A run: the pieces of its input, its status, and the pieces of its text. A piece may have marks, which are written out.
+/// `<entries N>`, `<pdos N>` and `<slaves A B T N>` have N bits, `<groups A B>` have a slave each, and `<zeros N>` are N bytes
+/// 0. `<sends A B>` and `<sent A B>` are sendings of the task of `ONE_SLAVE`, and their output.
 pub type Run = (&'static [&'static str], u8, &'static [&'static str]);
 
 /// Adds gaps of this many bits together, at most 4,096.

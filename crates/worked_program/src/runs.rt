@@ -114,7 +114,7 @@ none
 none
 ";
 
-/// Variables after earlier bits, and some that aren't assigned or present.
+/// Variables after earlier bits, and some that are not assigned or present.
 const LATER_PLACES: &str = "var 21 task 3 datagram 0 bit 5 bits 64 dir out
 none
 var 23 task 3 datagram 0 bit 0 bits 1 dir out

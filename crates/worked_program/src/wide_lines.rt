@@ -149,7 +149,7 @@ assigned = [1]
 pdo = [<pdos 11889>]
 "#;
 
-/// An area isn't made wider than a datagram.
+/// An area is not made wider than a datagram.
 const NOT_WIDER: &str = "refused 11 AreaTooBig
 epoch 1 recut 1 moved 2
 epoch 1

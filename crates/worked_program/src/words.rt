@@ -322,7 +322,7 @@ const RUNS: &[Run] = &[
     (&["%%\r\n\r\n"], 0, &[]),
 ];
 
-/// Lines and words are parted as the format says, and project text that isn't UTF-8 is refused with `NotToml`.
+/// Lines and words are parted as the format says, and project text that is not UTF-8 is refused with `NotToml`.
 #[test]
 fn lines_and_words(rt: HostRuntime) -> Result<(), Fail> {
     assert_eq!(rt; first_wrong(&rt, rt.alloc(), RUNS)?, None);

@@ -26,7 +26,7 @@ struct Moment {
     answer_given: &'static [AnswerGiven],
 }
 
-/// The axis has a byte of outputs and two of inputs. Variable 9 is none, and variable 3 is of the feeder, which isn't
+/// The axis has a byte of outputs and two of inputs. There is no variable 9, and variable 3 is of the feeder, which is not
 /// docked.
 const OPENED: Moment = Moment {
     epoch: 0,

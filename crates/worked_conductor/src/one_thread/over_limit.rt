@@ -1,4 +1,4 @@
-//! A project whose opening line is too over its limit isn't opened.
+//! A project whose opening line needs too many datagrams is not opened.
 use crate::over_limit::line_over_limit;
 use hc_conductor::one_thread::open;
 use hc_publish::faults::OpenFault;

@@ -116,7 +116,7 @@ const ROWS: [&[Step]; 6] = [
         Take(0, 0),
         Exchange(1),
     ],
-    // posts are taken in order, and an output that isn't named is 0
+    // posts are taken in order, and an output that is not named is 0
     &[
         Write(4),
         Post(0, &[THREE], Ok(())),

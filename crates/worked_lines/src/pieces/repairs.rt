@@ -19,7 +19,7 @@ use std::test::Fail;
 /// A direction, the rank of a slave, and the bits of its first area of that direction.
 pub type Width = (Dir, u16, u16);
 
-/// Sets widths of some of so many slaves, and answers the hulls of their keys.
+/// Sets widths of some of `slaves` slaves, and returns the hulls of their keys.
 pub fn set_all(cuts: &mut Cuts, slaves: u16, areas: &[Width]) -> Hulls
     requires slaves { cuts.old.tree.slaves ≡ slaves }
     requires holds { HoldsTaskList cuts.old.tree }
@@ -40,7 +40,7 @@ pub fn set_all(cuts: &mut Cuts, slaves: u16, areas: &[Width]) -> Hulls
     hulls
 }
 
-/// Sets widths of a task that is cut, and repairs its boundaries. Whether as many spans aren't settled.
+/// Sets widths of a task that is cut, and repairs its boundaries. True if `spans` spans are not settled.
 fn leaves_counted<L: Ledger>(cuts: &mut Cuts, areas: &[Width], spans: u32, blank: Blank) -> bool
     requires name { blank.name ≡ L.name }
     requires parts { blank.parts ≡ L.parts }
@@ -102,9 +102,9 @@ fn are_repaired(alloc: Global, rows: &[Row], later: &[(Dir, u16)]) -> Result<boo
     Ok(are_starts(cuts.starts(), later))
 }
 
-/// Tasks: the edits from an empty task on, and the keys where the later datagrams begin after them. An edit in front
-/// reaches two spans; a repair begins below the touched key; it goes over both hulls; a touched task has an unsettled
-/// span; an edit at the end keeps the spans before it.
+/// Tasks: the edits from an empty task on, and the keys at which the later datagrams begin after them. An edit in front reaches
+/// two spans. A repair begins below the touched key, and goes over both hulls. A touched task has an unsettled span. An edit at
+/// the end keeps the spans before it.
 const TASKS: [(&[Row], &[(Dir, u16)]); 5] = [
     (
         &[

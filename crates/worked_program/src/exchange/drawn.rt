@@ -150,7 +150,7 @@ impl Count {
     }
 }
 
-/// Runs the edits, with exchanges among them, until one isn't right or there are a hundred.
+/// Runs the edits, with exchanges among them, until an exchange is not right or there are a hundred.
 fn count_right(alloc: Global) -> Result<Count, Fail> {
     let mut plan = Plan::new(alloc, Project::checked(alloc, groups(alloc)?)?)?;
     let (mut drawing, mut state) = (Drawing::begin(), 20_261_126_u64);

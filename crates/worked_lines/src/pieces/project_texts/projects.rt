@@ -28,8 +28,8 @@ index = 0x1a00
 entries = [[2, 12]]
 "#;
 
-/// One slave with an output and an input area, as inline arrays of inline tables: its keys in another order, with keys that are
-/// ignored at every level, also a key of another level and one of another case.
+/// One slave with an output and an input area, as inline arrays of inline tables. Its keys are in another order, with keys that
+/// are ignored at every level, also a key of another level and one of another case.
 const INLINE: &str = r#"
 title = "a small line"
 groups = 5

@@ -152,7 +152,7 @@ entries = [[3, 12]] -> entries = [[3, 12.0]] => 2
 entries = [[3, 12]] -> entries = [["3", 12]] => 2
 entries = [[3, 12]] -> entries = [{ variable = 3, bits = 12 }] => 2"#;
 
-/// Names that are twice, areas that overlap, PDOs that aren't offered.
+/// Names that are twice, areas that overlap, PDOs that are not offered.
 const CONDITIONS: &str = r#"alias = 200 -> alias = 100 => 4
 station = 2001 -> station = 1001 => 5
 station = 2001 -> station = 2002 => 5
