@@ -23,7 +23,7 @@ pub record DatagramCameBack (line : List Member) (task serial d : ℕ) (frame by
       ≡ record { serial = serial + d; parts = logical_part (logical_address task d) bytes (expected_counter task d line) ∷ [] }
   pub size : length bytes ≡ datagram_length (task_places task line) d
 
--- a variable of so many bits is in the memory of the slave at a position of the line: in an area of its record, from this bit of memory on
+-- a variable of `bits` bits is in the memory of the slave at a position of the line: in an area of its record, from this bit of memory on
 pub record VariableLiesInMemory (line : List Member) (variable bits position m : ℕ) : Type 0 where
   pub member : Member
   pub index : ℕ

@@ -19,7 +19,7 @@ pub record PassesLogical (machines : List (List ℕ)) (serial address : ℕ) (by
       ≡ record { serial = serial; parts = logical_part address (data_through machines (8 * address) bytes) (count_through machines (8 * address) (length bytes) % 65536) ∷ [] }
   pub memories : machines_after_frame machines frame ≡ memories_after machines (8 * address) bytes
 
--- so is each such frame as it is sent
+-- each frame of a logical datagram passes machines so, as it is sent
 abbrev pub LogicalFramesPass : Type 0
 LogicalFramesPass =
     (machines : List (List ℕ)) (serial address : ℕ) (bytes : List ℕ) → All (λ m. length m ≡ MEMORY_BYTES) machines → CanBeCarried serial (sent_on_wire (lrw address bytes) ∷ [])
@@ -36,7 +36,7 @@ pub record Addressed : Type 0 where
   pub address : ℕ
   pub bytes : List ℕ
 
--- it as the first logical bit and its data
+-- a logical datagram as its first logical bit and its data
 abbrev pub logical_of : Addressed → Logical
 logical_of d = record { from = 8 * d.address; bytes = d.bytes }
 
@@ -53,7 +53,7 @@ pub record PassesAll (machines : List (List ℕ)) (serial : ℕ) (ds : List Addr
   pub answer_given : reading_of (frame_through machines frame) ≡ record { serial = serial; parts = datagrams_after_machines machines ds }
   pub memories : machines_after_frame machines frame ≡ all_after_frames machines (map logical_of ds)
 
--- so is each frame of logical datagrams as it is sent: they do in one frame what they do in frames of their own
+-- each frame of logical datagrams passes machines so, as it is sent: they do in one frame what they do in frames of their own
 abbrev pub SharedFramesPass : Type 0
 SharedFramesPass =
     (machines : List (List ℕ)) (serial : ℕ) (ds : List Addressed) → All (λ m. length m ≡ MEMORY_BYTES) machines

@@ -118,7 +118,7 @@ IsRun passed (Opened groups ∷ history) (wire ∷ wires) = IsOpenedWire (Opened
 IsRun passed (entry ∷ history) (wire' ∷ []) = ⊥
 IsRun passed (entry ∷ history) (wire' ∷ wire ∷ wires) = Goes passed history entry wire wire' × IsRun passed history (wire ∷ wires)
 
--- what is kept by each entry
+-- the invariant that entries keep
 
 -- the machine of a slave of the line took each block's last write, if the write's frame passed all machines, and holds in each FMMU what it may hold
 pub record TakesWrites (passed : ℕ → Bool) (history : History) (member : Member) (memory : List ℕ) : Type 0 where

@@ -32,7 +32,8 @@ pub record IsPacked (line : List Member) (task : ℕ) (image : List ℕ) (d : �
       → bit_of bytes (place.bit + k) ≡ bit_of image (place_bit line place + k)
   pub others : (k : ℕ) → ((variable : ℕ) (place : VariablePlace) → IsVariable line task Out variable place → ¬ LiesInTaskPlace place task d k) → bit_of bytes k ≡ 0
 
--- so many datagrams of a task with these data, in their order: an LRW each (ETG.1000.4, 5.4), in a frame of its own, with serials from this one on
+-- the frames of the first `count` datagrams of a task with these data, in their order: an LRW each (ETG.1000.4, 5.4), in a frame of its own, with serials from
+-- this one on
 abbrev pub task_frames : ℕ → ℕ → ℕ → (ℕ → List ℕ) → List (List ℕ)
 task_frames serial task count bytes = map (λ d. frame_text (serial + d) (lrw (logical_address task d) (bytes d) ∷ [])) (range_with_len 0 count)
 

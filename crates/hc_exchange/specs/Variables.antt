@@ -7,7 +7,8 @@ use Rattle.hc_records.specs.Line.{Member, State, line}
 use Rattle.hc_exchange.specs.PairLaws.{IsConfigurable}
 use Rattle.hc_exchange.specs.Carrying.{LinePairsIn}
 
--- a variable with a place is in an area of a slave of the line: so many bits after the first of the area's memory, by the widths of the entries before it; each of its bits at the place is a pair of the area with the same bit there
+-- a variable with a place is in an area of a slave of the line, after the first bit of the area's memory by the widths of the entries before it; each of its
+-- bits at the place is a pair of the area with the same bit there
 pub record IsCarried (line : List Member) (variable : ℕ) (place : VariablePlace) : Type 0 where
   pub member : Member
   pub index : ℕ

@@ -32,8 +32,8 @@ pub fn lines_stay_programmed()
     ensures { LinesStayProgrammed }
 {}
 
-/// The frame of one logical datagram after machines is read: with its serial and its address, with the data that the machines
-/// make of it one after another, and with the sum of what they add to its working counter, modulo 65,536.
+/// The frame of one logical datagram is read after machines: with its serial and its address, and with the data that the
+/// machines make of it one after another. Its working counter is the sum of what they add, modulo 65,536.
 pub fn logical_frames_pass()
     ensures { LogicalFramesPass }
 {}
@@ -49,7 +49,7 @@ pub fn counters_are_expected()
     ensures { CountersAreExpected }
 {}
 
-/// Each variable with a place is in an area of a slave: its bits at the place are paired with as many bits of the slave's
+/// Each variable with a place is in an area of a slave. Its bits at the place are paired with as many bits of the slave's
 /// memory, which begin after the first bit of the area's by the widths of the entries before it.
 pub fn variables_are_carried()
     ensures { VariablesAreCarried }

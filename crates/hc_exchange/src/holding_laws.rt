@@ -9,14 +9,14 @@ pub fn records_are_configurable()
     ensures { RecordsAreConfigurable }
 {}
 
-/// If the machines of a wire hold what a record says of their registers, they carry each task that is ready: each slave of the
-/// line has the FMMU blocks of its areas in the task, and no other FMMU on the wire pairs a logical bit of the task, though
-/// blocks of other tasks are owed, and tools outside the line are still plugged.
+/// Machines of a wire that hold what a record says of their registers carry each task that is ready. Each slave of the line has
+/// the FMMU blocks of its areas in the task, and no other FMMU on the wire pairs a logical bit of the task. Blocks of other
+/// tasks may be owed, and tools outside the line may still be plugged.
 pub fn ready_tasks_are_carried()
     ensures { ReadyTasksAreCarried }
 {}
 
-/// Machines that took the writes of a record hold what the record says: each block's known bytes are at its register, and each
+/// Machines that took the writes of a record hold what the record says. Each block's known bytes are at its register, and each
 /// FMMU that is not unknown holds zeros or one of the contents that it may have.
 pub fn taken_writes_are_held()
     ensures { TakenWritesAreHeld }
@@ -35,9 +35,9 @@ pub fn runs_hold_registers()
     ensures { RunsHoldRegisters }
 {}
 
-/// A frame of ready tasks comes back good from a wire that holds what the record says: it is read, each of its datagrams has the
-/// expected working counter, and the data are what the line's machines alone make of them, though blocks of other tasks are
-/// owed, and tools outside the line are still plugged.
+/// A frame of ready tasks comes back good from a wire that holds what the record says. It is read, each of its datagrams has
+/// the expected working counter, and the data are what the line's machines alone make of them. Blocks of other tasks may be
+/// owed, and tools outside the line may still be plugged.
 pub fn ready_frames_come_back_good()
     ensures { ReadyFramesComeBackGood }
 {}

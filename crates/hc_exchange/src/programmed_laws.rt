@@ -45,9 +45,9 @@ pub fn no_memory_bit_twice()
     ensures { NoMemoryBitTwice }
 {}
 
-/// The machines of a line, after an FPWR of each of its blocks in line and block order: each has its slave's blocks at their
-/// registers and zeros in the FMMU blocks past them, and no byte below the FMMU blocks (the station address and the alias are
-/// there) and none of process memory is changed.
+/// The machines of a line, after an FPWR of each of its blocks in line and block order, have their slaves' blocks at their
+/// registers, and zeros in the FMMU blocks past them. No byte below the FMMU blocks, where the station address and the alias
+/// are, and none of process memory is changed.
 pub fn writing_programs_the_line()
     ensures { WritingProgramsTheLine }
 {}

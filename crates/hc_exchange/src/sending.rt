@@ -61,7 +61,7 @@ fn frame_of(alloc: Global, serial: u64, address: u32, bytes: &[u8]) -> Result<Ve
     Ok(frame)
 }
 
-/// The frames of a task's first datagrams, so many, with serials from one on. `AllocError` where a growth was refused.
+/// The frames of a task's first `count` datagrams, with serials from `serial` on. `AllocError` if an allocation failed.
 pub(crate) fn frames_of(
     alloc: Global,
     serial: u64,

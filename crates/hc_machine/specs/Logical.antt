@@ -1,4 +1,4 @@
--- A logical memory read and write, bit by bit (ETG.1000.4, LRW and FMMU; where FMMUs meet, this project's profile): the FMMUs are taken as they are before it.
+-- A logical memory read and write, bit by bit (ETG.1000.4, LRW and FMMU; this project's profile, if FMMUs meet): the FMMUs are taken as they are before it.
 use Rattle.std.specs.Prelude.{ℕ, ◌+◌, ◌-◌, ◌*◌, Bool, ◌&&◌, if◌then◌else◌, nat_lt, List, [], ◌∷◌, length, min, max}
 use Rattle.std.specs.List.{list_any}
 use Rattle.hc_bits.specs.Bits.{bit_of}

@@ -29,7 +29,7 @@ abbrev pub sent_lines : ℕ → List (List ℕ) → List ℕ
 sent_lines serial [] = []
 sent_lines serial (frame ∷ frames) = sent_line serial frame ++ sent_lines (serial + 1) frames
 
--- these lines, or the line `no frame` if there is no frame
+-- the lines of frames that are sent, or the line `no frame` if there is no frame
 abbrev pub frames_text : ℕ → List (List ℕ) → List ℕ
 frames_text serial [] = codes "no frame\n"
 frames_text serial (frame ∷ frames) = sent_lines serial (frame ∷ frames)

@@ -28,7 +28,7 @@ station_frames position (member ∷ members) = station_frame position member.sla
 abbrev pub data_in : List ℕ → ℕ
 data_in frame = word_at frame FIRST_DATA
 
--- the working counter after them
+-- the working counter after the data of such a frame
 abbrev pub counter_in : List ℕ → ℕ
 counter_in frame = word_at frame (FIRST_DATA + 2)
 
