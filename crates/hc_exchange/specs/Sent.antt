@@ -37,7 +37,7 @@ pub record IsPacked (line : List Member) (task : ℕ) (image : List ℕ) (d : �
 abbrev pub task_frames : ℕ → ℕ → ℕ → (ℕ → List ℕ) → List (List ℕ)
 task_frames serial task count bytes = map (λ d. frame_text (serial + d) (lrw (logical_address task d) (bytes d) ∷ [])) (range_with_len 0 count)
 
--- these frames of a task go through machines, with serials from this one on: the frames that come back, and the machines after them
+-- the frames of a task go through machines, with serials from this one on: the frames that come back, and the machines after them
 pub record IsSentOver (line : List Member) (task serial : ℕ) (image : List ℕ) (machines frames machines' : List (List ℕ)) : Type 0 where
   pub bytes : ℕ → List ℕ
   pub packed : (d : ℕ) → d < task_datagram_count line task → IsPacked line task image d (bytes d)

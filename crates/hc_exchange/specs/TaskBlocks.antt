@@ -50,7 +50,7 @@ pub record IsInactive (task : ℕ) (member : Member) (memory : List ℕ) : Type 
 abbrev pub FreshMachinesPass : Type 0
 FreshMachinesPass = (line : List Member) (task : ℕ) (member : Member) (memory : List ℕ) → IsInactive task member memory → HasTaskBlocks line task member memory
 
--- of the line's blocks those that are chosen
+-- the chosen ones of the line's blocks
 abbrev pub chosen_blocks : (LineBlock → Bool) → List Member → List LineBlock
 chosen_blocks choice line = filter choice (line_blocks line)
 

@@ -22,9 +22,10 @@ pub fn taken_writes_are_held()
     ensures { TakenWritesAreHeld }
 {}
 
-/// Each accepted entry of a record keeps what the machines of the line took of its writes, if frames pass each slave in the
-/// order in which they were handed to the line (all machines of the wire, or a front of them), a frame comes back only if it
-/// passed all machines, a slave that was cleared has zeros in its FMMUs, and one that lost its registers zeros or what it had.
+/// Each accepted entry of a record keeps what the machines of the line took of its writes, under four premises. Frames pass
+/// each slave in the order in which they were handed to the line: all machines of the wire, or the first ones. A frame comes
+/// back only if it passed all machines. A slave that was cleared has zeros in its FMMUs. One that lost its registers has zeros
+/// there, or what it had.
 pub fn entries_keep_registers()
     ensures { EntriesKeepRegisters }
 {}

@@ -1,5 +1,5 @@
-//! The run of `hotline`: it reads all input, opens the project, answers each turn, which is a command line or a declaration
-//! with the lines of its document, and writes each reply before it answers the next turn.
+//! The run of `hotline`. It reads all input, opens the project, and answers each turn: a command line, or a declaration with
+//! the lines of its document. It writes each reply before it answers the next turn.
 ghost use Rattle.std.specs.Prelude.{◌≡◌, ◌≢◌, ◌≤◌, ◌+◌, false, true, length, IfSome};
 ghost use Rattle.std.specs.Option.{option_copied};
 ghost use Rattle.hc_text.specs.Cutting.{left_in};

@@ -11,7 +11,7 @@ use std::thread::Threads;
 /// The number of frames sent, or the fault; the arena of 64 bytes after the call; and the next serial.
 type Sent = (Result<usize, CoreFault>, [u8; 64], u64);
 
-/// True if the axis' blocks are written, its outputs moved to task 1, and the two moved blocks written.
+/// Writes the axis' blocks, moves its outputs to task 1, and writes the two moved blocks. True if all succeed.
 fn is_parted(alloc: Global, conductor: &mut Conductor) -> bool {
     are_written(alloc, conductor, 4)
         && is_edited(alloc, conductor, &MOVE, (1, 2, 2))

@@ -180,7 +180,8 @@ enum Tool {
     Stays,
 }
 
-/// Connects the gripper, closed and with a pressure of 1,000, or disconnects it. True if the edit is accepted.
+/// Connects the gripper, closed and with a pressure of 1,000, or disconnects it. True if the edit is accepted, or the gripper
+/// stays.
 fn is_changed(alloc: Global, conductor: &mut Conductor, slaves: &mut Slaves, tool: Tool) -> bool {
     let edit = match tool {
         Tool::Comes => Edit::Connect(100),

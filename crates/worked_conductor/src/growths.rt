@@ -148,7 +148,7 @@ fn asked<R: Threads + Wait + Sync>(
     (seat, again)
 }
 
-/// True if each of these calls has its result. A seat sees `published` until the last of them has succeeded.
+/// True if each of these calls has its result. `published` is the moment that a seat sees if a call fails at first.
 fn all_asked<R: Threads + Wait + Sync>(
     rt: &R,
     alloc: Global,

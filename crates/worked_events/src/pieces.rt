@@ -125,8 +125,8 @@ const AFTER: &[Row] = &[
     ),
 ];
 
-/// Sends the tasks in pieces, and returns the first of these rows that does not hold. `AFTER.len()` if the tasks were not sent.
-/// None if all rows hold.
+/// Sends the tasks in pieces, and returns the first row of `AFTER` that does not hold. `AFTER.len()` if the tasks were not
+/// sent. None if all rows hold.
 fn first_wrong_after(alloc: Global, driven: &mut Driven) -> Result<Option<usize>, CoreFault> {
     let wrong = first_wrong_at(driven, alloc, BEFORE)?;
     if wrong.is_some() || !is_sent_in_pieces(alloc, &mut driven.core)? {

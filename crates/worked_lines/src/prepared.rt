@@ -58,8 +58,8 @@ fn is_done(
     Ok(format!(in alloc; "{report:?}")? == answer_given && has_blocks(plan, prepared.blocks()))
 }
 
-/// Prepares an edit by which these slaves leave, and then carries it out. True if the preparing leaves the plan as it was, and
-/// the edit is carried out as prepared.
+/// Prepares an edit, and then carries it out. True if the preparing names these slaves as leaving and leaves the plan as it
+/// was, and the edit is carried out as prepared.
 fn is_prepared(plan: &mut Plan, alloc: Global, edit: &Edit, gone: Gone) -> Result<bool, Fail> {
     let before = format!(in alloc; "{plan:?}")?;
     let prepared = plan.prepare(alloc, edit)?;
