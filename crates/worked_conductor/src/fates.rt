@@ -18,15 +18,15 @@ const DATA: usize = 26;
 /// The fate of an answer.
 #[derive(Clone, Copy)]
 enum Fate {
-    /// It comes before anything else is sent.
+    /// The answer comes before anything else is sent.
     InTime,
-    /// It never comes.
+    /// The answer never comes.
     Lost,
-    /// It comes in time, and once more.
+    /// The answer comes in time, and once more.
     Twice,
-    /// It comes in the next cycle, before anything is sent there.
+    /// The answer comes in the next cycle, before anything is sent there.
     Late,
-    /// It comes in the next cycle, when its task was sent again.
+    /// The answer comes in the next cycle, after its task was sent again.
     TooLate,
 }
 

@@ -11,7 +11,7 @@ pub struct WaitsForNext {
 }
 
 impl WaitsForNext {
-    /// Neither has begun.
+    /// A gate at which neither worker has begun.
     pub fn shut() -> WaitsForNext {
         WaitsForNext {
             begun: AtomicBool::new(false),

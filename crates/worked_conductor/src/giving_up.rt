@@ -78,9 +78,9 @@ fn slave(alloc: Global, station: u16, inputs: u16) -> Result<SlaveMachine, Alloc
 /// The change of the tool before a cycle.
 #[derive(Clone, Copy, PartialEq, Eq)]
 enum Tool {
-    /// It docks, and its slave answers.
+    /// The tool docks, and its slave answers.
     Docks,
-    /// It docks without contact, so that its slave answers nothing.
+    /// The tool docks without contact, so that its slave answers nothing.
     Misses,
     Leaves,
     Stays,

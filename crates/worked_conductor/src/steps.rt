@@ -15,11 +15,11 @@ use std::sync::Wait;
 /// The result of an arrival for the axis' datagram.
 #[derive(Clone, Copy, PartialEq, Eq)]
 pub enum Came {
-    /// Its inputs.
+    /// The inputs of the axis' datagram.
     Inputs,
-    /// It came back with another working counter than the expected one.
+    /// The datagram came back with another working counter than the expected one.
     WrongCount(u16, u16),
-    /// It answers nothing.
+    /// The frame answers nothing.
     Stale,
 }
 

@@ -19,13 +19,13 @@ const SIZE: usize = 31;
 /// The meaning of a changed answer.
 #[derive(Clone, Copy, PartialEq, Eq)]
 enum Meaning {
-    /// It cannot be read.
+    /// The frame cannot be read.
     Refused(CoreFault),
-    /// It answers no sending.
+    /// The frame answers no sending.
     Stale,
-    /// It is the answer, with its data.
+    /// The frame is the answer, with its data.
     Inputs,
-    /// It is the answer, with this counter.
+    /// The frame is the answer, with this counter.
     WrongCount(u16),
 }
 

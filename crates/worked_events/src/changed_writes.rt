@@ -24,15 +24,15 @@ const THREE: &[Back] = &[
 /// The meaning of a changed answer.
 #[derive(Clone, Copy, PartialEq, Eq)]
 enum Meaning {
-    /// It cannot be read, for this fault.
+    /// The frame cannot be read, for this fault.
     Refused(CoreFault),
-    /// It cannot be read, or answers no sending: with another length the bytes after it have other meanings.
+    /// The frame cannot be read, or answers no sending: with another length the bytes after it have other meanings.
     LeftOut,
-    /// It answers no sending.
+    /// The frame answers no sending.
     Stale,
-    /// It is the answer, and each slave took its block.
+    /// The frame is the answer, and each slave took its block.
     AllDone,
-    /// It is the answer, and the block with this number, from 0, was not taken.
+    /// The frame is the answer, and the block with this number, from 0, was not taken.
     OneMissed(usize),
 }
 

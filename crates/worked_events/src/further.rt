@@ -58,7 +58,7 @@ const TWO_FRAMES: &[Row] = &[
     (Send(&[0]), Wanted::Refused(CoreFault::Unprogrammed(4))),
 ];
 
-/// Both are answered in the order in which they were sent, each once.
+/// The two frames are answered in the order in which they were sent, each once.
 const IN_ORDER: &[Row] = &[
     (Comes(0, FIRST_BACK), Wanted::WriteDone),
     (Comes(1, THREE_BACK), Wanted::Written(&[Done, Done, Done])),
@@ -67,7 +67,7 @@ const IN_ORDER: &[Row] = &[
     (Further, Wanted::Refused(CoreFault::NothingOwed)),
 ];
 
-/// The later one is answered first, and the earlier one counts all the same.
+/// The later of the two frames is answered first, and the earlier one counts all the same.
 const IN_REVERSE: &[Row] = &[
     (Comes(1, THREE_BACK), Wanted::Written(&[Done, Done, Done])),
     (Further, Wanted::Refused(CoreFault::UnderWay)),

@@ -61,7 +61,7 @@ const WRITES: &[Row] = &[
     (Send(&[0]), Wanted::Refused(CoreFault::Unprogrammed(1))),
 ];
 
-/// The last one is answered, and the task is sent with the next serial, 4.
+/// The last write is answered, and the task is sent with the next serial, 4.
 const LAST_ANSWER: &[Row] = &[
     (
         Comes(3, &[(Fpwr, 0x0610_03e9, &[0; 16], 1)]),
@@ -212,7 +212,7 @@ const EMPTIED: &[Row] = &[
     (Send(&[0]), Wanted::Refused(CoreFault::Unprogrammed(3))),
 ];
 
-/// All of them, each from its line's opening on.
+/// The lines of these rows, each from its opening on.
 const LINES: &[Case] = &[
     (AXIS, &[Rows(WRITES), Rows(LAST_ANSWER)]),
     (AXIS, &[Rows(WRITES), Rows(MISSED), Rows(CONFIRMED)]),

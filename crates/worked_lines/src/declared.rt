@@ -45,7 +45,7 @@ group = [
 ]
 "#;
 
-/// And with another station address too.
+/// The feeder under another alias, and with another station address too.
 const OTHER_STATION: &str = r#"
 group = [
   { alias = 201, slave = [
@@ -157,7 +157,8 @@ fn as_many_groups_are_declared_as_a_line_may_have(rt: HostRuntime) -> Result<(),
     Ok(())
 }
 
-/// A group that is none by itself is reported so, before what it takes is looked at.
+/// A group that is not valid by itself is refused with its own fault, before its alias, stations and variables are compared
+/// with those that are taken.
 #[test]
 fn a_group_is_judged_by_itself_first(rt: HostRuntime) -> Result<(), Fail> {
     let alloc = rt.alloc();

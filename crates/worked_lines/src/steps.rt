@@ -44,7 +44,7 @@ pub enum Step {
     Block(u16, u8, u16, &'static [u8]),
 }
 
-/// The last of the variables.
+/// The number of the last variable.
 const LAST: u32 = 7;
 
 /// True if two tables have the same part and the same first datagram of each task.

@@ -22,7 +22,7 @@ assigned = [1]
 pdo = [{ index = 1, entries = [[0, 3]] }]
 "#;
 
-/// An input area of 1 bit for the first of them.
+/// An input area of 1 bit for the first of the two slaves.
 const ONE_BIT: &str = r#"[[slave.area]]
 sm = 2
 dir = "in"
@@ -32,7 +32,7 @@ assigned = [1]
 pdo = [{ index = 1, entries = [[0, 1]] }]
 "#;
 
-/// The second of them.
+/// The second of the two slaves.
 const SECOND_SLAVE: &str = r#"[[slave]]
 station = 2
 [[slave.area]]

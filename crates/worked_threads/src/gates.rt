@@ -100,7 +100,7 @@ pub struct Counts {
 }
 
 impl Counts {
-    /// None has begun.
+    /// A gate at which no worker has begun.
     pub fn of_none() -> Counts {
         Counts {
             begun: [

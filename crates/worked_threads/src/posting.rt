@@ -79,13 +79,13 @@ pub fn takes_four(receiver: &mut PostReceiver, bytes: &[u8; 3]) -> bool {
 
 /// A call of a receiver, with its result.
 pub enum Taking {
-    /// It takes a post with this epoch and these bytes, and gives its buffer back.
+    /// The receiver takes a post with this epoch and these bytes, and gives its buffer back.
     Post(u32, [u8; 3]),
-    /// It takes posts with the epochs 0 to 3 and these bytes.
+    /// The receiver takes posts with the epochs 0 to 3 and these bytes.
     Four([u8; 3]),
-    /// It finds no post.
+    /// The receiver finds no post.
     Nothing,
-    /// It returns the number of posts that are left, if it sees that the sender is gone.
+    /// The receiver returns the number of posts that are left, if it sees that the sender is gone.
     Left(Option<u32>),
 }
 

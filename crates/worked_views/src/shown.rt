@@ -99,7 +99,7 @@ enum Given {
     Answer(&'static [u8]),
     /// The feeder joins the line.
     Docking,
-    /// It leaves it.
+    /// The feeder leaves the line.
     Undocking,
     /// The axis loses its outputs.
     LosingOutputs,

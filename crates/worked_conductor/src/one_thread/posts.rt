@@ -32,7 +32,7 @@ const FOUR: Setting = Setting {
     value: 4,
 };
 
-/// Its input, one value that is too wide for it, and two numbers that are no variable's.
+/// The axis' input, one value that is too wide for it, and two numbers that are no variable's.
 const INPUT: Setting = Setting {
     variable: 2,
     value: 1,
