@@ -13,11 +13,11 @@ use std::sync::Wait;
 const SENT: &[u8] =
     b"\xff\xff\xff\xff\xff\xff\x02\0\0\0\0\x04\x88\xa4\x0f\x10\x0c\x04\0\0\0\x01\x03\0\0\0\x02";
 
-/// This frame as it comes back with inputs of 0xa34 and the expected working counter, cut after the counter.
+/// The answer to the frame of task 0 with serial 4: inputs of 0xa34 and the expected working counter, cut after the counter.
 const ANSWER: &[u8] =
     b"\xff\xff\xff\xff\xff\xff\x02\0\0\0\0\x04\x88\xa4\x0f\x10\x0c\x04\0\0\0\x01\x03\0\0\0\x02\x34\x0a\x03\0";
 
-/// The next frame of task 0 as it comes back with the working counter 2.
+/// The answer to the frame of task 0 with serial 5, with the working counter 2.
 const MISCOUNTED: &[u8] =
     b"\xff\xff\xff\xff\xff\xff\x02\0\0\0\0\x05\x88\xa4\x0f\x10\x0c\x05\0\0\0\x01\x03\0\0\0\x02\x55\x05\x02\0";
 

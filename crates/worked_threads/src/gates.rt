@@ -22,7 +22,7 @@ pub struct Holds {
 }
 
 impl Holds {
-    /// One worker is held for another.
+    /// A gate that holds one worker for another.
     pub fn of(holder: usize, other: usize) -> Holds {
         Holds {
             holder,

@@ -96,7 +96,7 @@ fn write_all<R: Threads + Wait + Sync>(
 
 /// Writes owed blocks along the line, always the first one, until none is owed or a write fails. Appends the numbers of blocks
 /// written and of blocks owed then. It allocates for the line first. Returns a `RefusedGrowth` if an allocation fails; the
-/// writes before it stay done.
+/// steps before it stay done.
 #[tactic(auto, unfolding(crate::specs::Programs::program_text))]
 pub fn reply<R: Threads + Wait + Sync>(
     rt: &R,
