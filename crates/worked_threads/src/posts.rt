@@ -119,8 +119,8 @@ const RUNS: [Run; 8] = [
     ),
 ];
 
-/// Posts come out of a ring as they were posted, in order, also after the sender is dropped. Exactly the posts of the row are
-/// left then.
+/// Posts come out of a ring as they were posted, in order, also after the sender is dropped. As many as the row says are left
+/// then, and no more.
 #[test]
 fn posts_come_as_they_were_posted(rt: HostRuntime) -> Result<(), Fail> {
     for (number, (steps, takings, left)) in RUNS.iter().enumerate() {
