@@ -1,4 +1,6 @@
--- What the machines of a line make of logical datagrams if they carry each of the bits, whatever their other FMMUs pair. Each is stated for the logical bits that are asked about, and is the contract of a function of `task_laws` for the bits of each task; the laws of programmed lines are the case of all logical bits.
+-- Laws of logical datagrams through the machines of a line that carry each of their bits, whatever the machines' other FMMUs pair. Each is stated for the
+-- logical bits that are asked about, and is the contract of a function of `task_laws` for the bits of each task. The laws of programmed lines are the case of
+-- all logical bits.
 use Rattle.std.specs.Prelude.{◌≡◌, Bool, true, ℕ, ◌+◌, ◌*◌, ◌<◌, AllPairs, List, Some, length, slice_get}
 use Rattle.hc_bits.specs.Bits.{bit_of}
 use Rattle.hc_records.specs.AddressLaws.{LineHasDatagram}
@@ -53,7 +55,7 @@ AskedOutputsArrive Asked state =
     → MeetsCarrying Asked state machines k member memory → AreAsked Asked from bytes → slice_get (memories_after machines from bytes) k ≡ Some memory'
     → bit < 8 * length bytes → LinePairsIn (line state) Out member.slave.station (from + bit) m → bit_of memory' m ≡ bit_of bytes bit
 
--- every other bit of its memory is as it was, in its registers too
+-- every other bit of a slave's memory is as it was, in its registers too
 abbrev pub MemoryBesideAskedStays : (ℕ → Type 0) → State → Type 0
 MemoryBesideAskedStays Asked state =
     (machines : List (List ℕ)) (k : ℕ) (member : Member) (memory memory' bytes : List ℕ) (from m : ℕ)
@@ -65,13 +67,13 @@ pub record StaysCarrying (Asked : ℕ → Type 0) (line : List Member) (machines
   pub size : length (data_through machines from bytes) ≡ length bytes
   pub carrying : AreCarrying Asked line (memories_after machines from bytes)
 
--- after any datagram of bits that are asked about
+-- a line stays carrying after any datagram of bits that are asked about
 abbrev pub LinesStayCarrying : (ℕ → Type 0) → State → Type 0
 LinesStayCarrying Asked state =
     (machines : List (List ℕ)) (bytes : List ℕ) (from : ℕ) → IsConfigurable state → AreCarrying Asked (line state) machines
     → AreAsked Asked from bytes → StaysCarrying Asked (line state) machines from bytes
 
--- what machines that carry a task add to the working counter of one of its datagrams is the expected counter
+-- machines that carry a task add to the working counter of one of its datagrams the expected counter
 abbrev pub TaskCountersAreExpected : Type 0
 TaskCountersAreExpected =
     (state : State) (machines : List (List ℕ)) (task datagram : ℕ) → IsConfigurable state → AreCarryingTask (line state) task machines → LineHasDatagram (line state) task datagram
@@ -95,7 +97,7 @@ AllAskedOutputsArrive Asked state =
     → MeetsCarrying Asked state machines k member memory → AllAreAsked Asked ds → AllPairs LogicalsAreApart ds → HasBit ds n d bit
     → LinePairsIn (line state) Out member.slave.station (d.from + bit) m → slice_get (all_after_frames machines ds) k ≡ Some memory' → bit_of memory' m ≡ bit_of d.bytes bit
 
--- every other bit of the memory is as it was before the first
+-- every other bit of a slave's memory is after the last datagram as it was before the first
 abbrev pub MemoryBesideAllAskedStays : (ℕ → Type 0) → State → Type 0
 MemoryBesideAllAskedStays Asked state =
     (machines : List (List ℕ)) (k : ℕ) (member : Member) (memory memory' : List ℕ) (ds : List Logical) (m : ℕ)

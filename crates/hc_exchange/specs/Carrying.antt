@@ -22,12 +22,12 @@ abbrev pub data_through : List (List ℕ) → ℕ → List ℕ → List ℕ
 data_through [] from bytes = bytes
 data_through (memory ∷ machines) from bytes = data_through machines from (logical_data memory from bytes)
 
--- the machines after it
+-- the machines after a datagram
 abbrev pub memories_after : List (List ℕ) → ℕ → List ℕ → List (List ℕ)
 memories_after [] from bytes = []
 memories_after (memory ∷ machines) from bytes = logical_memory memory from bytes ∷ memories_after machines from (logical_data memory from bytes)
 
--- what they add to its working counter
+-- the number that machines add to the working counter of a datagram
 abbrev pub count_through : List (List ℕ) → ℕ → ℕ → ℕ
 count_through [] from n = 0
 count_through (memory ∷ machines) from n = logical_count memory from n + count_through machines from n

@@ -1,4 +1,4 @@
--- What a programmed line makes of the data of a logical datagram, and what of its machines. Each is the contract of a function of `laws`.
+-- Laws of a logical datagram through a programmed line: its data, and the machines after it. Each is the contract of a function of `carrying_laws`.
 use Rattle.std.specs.Prelude.{All, ◌≡◌, ℕ, ◌+◌, ◌*◌, ◌<◌, List, Some, length, slice_get}
 use Rattle.hc_bits.specs.Bits.{AreBytes, bit_of}
 use Rattle.hc_records.specs.declared.records.Dir.TheVariants.{Out, In}
@@ -22,7 +22,7 @@ InputsAreBroughtBack =
     (state : State) (machines : List (List ℕ)) (k : ℕ) (member : Member) (memory bytes : List ℕ) (from bit m : ℕ) → Meets state machines k member memory
     → bit < 8 * length bytes → LinePairsIn (line state) In member.slave.station (from + bit) m → bit_of (data_through machines from bytes) bit ≡ bit_of memory m
 
--- one that is no input's comes back as it was sent
+-- a bit of the data that is no input's comes back as it was sent
 abbrev pub OtherBitsComeBack : Type 0
 OtherBitsComeBack =
     (state : State) (machines : List (List ℕ)) (bytes : List ℕ) (from bit : ℕ) → IsConfigurable state → AreProgrammed (line state) machines
@@ -35,7 +35,7 @@ OutputsArrive =
     → slice_get (memories_after machines from bytes) k ≡ Some memory' → bit < 8 * length bytes → LinePairsIn (line state) Out member.slave.station (from + bit) m
     → bit_of memory' m ≡ bit_of bytes bit
 
--- and every other bit as it was
+-- every other bit of a slave's memory is as it was
 abbrev pub OtherMemoryStays : Type 0
 OtherMemoryStays =
     (state : State) (machines : List (List ℕ)) (k : ℕ) (member : Member) (memory memory' bytes : List ℕ) (from m : ℕ) → Meets state machines k member memory
@@ -47,12 +47,12 @@ pub record StaysProgrammed (line : List Member) (machines : List (List ℕ)) (fr
   pub size : length (data_through machines from bytes) ≡ length bytes
   pub programmed : AreProgrammed line (memories_after machines from bytes)
 
--- after any datagram
+-- a line stays programmed after any datagram
 abbrev pub LinesStayProgrammed : Type 0
 LinesStayProgrammed =
     (state : State) (machines : List (List ℕ)) (bytes : List ℕ) (from : ℕ) → IsConfigurable state → AreProgrammed (line state) machines → StaysProgrammed (line state) machines from bytes
 
--- the machines of a line after the frames that write all its blocks are programmed, where each number of their memories was a byte
+-- the machines of a line after the frames that write all its blocks are programmed, if each number of their memories was a byte
 abbrev pub WrittenLinesAreProgrammed : Type 0
 WrittenLinesAreProgrammed =
     (state : State) (machines : List (List ℕ)) → IsConfigurable state → AreMachinesOf (line state) machines → All AreBytes machines

@@ -1,4 +1,4 @@
--- What an exchange over a programmed line does: each bit of each variable, and nothing else.
+-- An exchange over a programmed line: each bit of each variable is carried, and nothing else.
 use Rattle.std.specs.Prelude.{◌≡◌, ℕ, ◌+◌, ◌*◌, ◌<◌, ◌≤◌, Contains, List, [], ◌∷◌, None, Some, length, slice_get}
 use Rattle.hc_bits.specs.Bits.{bit_of}
 use Rattle.hc_records.specs.declared.limits.TheConstants.{MEMORY_START}
@@ -23,7 +23,7 @@ pub record DatagramCameBack (line : List Member) (task serial d : ℕ) (frame by
       ≡ record { serial = serial + d; parts = logical_part (logical_address task d) bytes (expected_counter task d line) ∷ [] }
   pub size : length bytes ≡ datagram_length (task_places task line) d
 
--- a variable of so many bits is in the memory of the slave at a position of the line: in an area of its record, from this bit of memory on
+-- a variable of `bits` bits is in the memory of the slave at a position of the line: in an area of its record, from this bit of memory on
 pub record VariableLiesInMemory (line : List Member) (variable bits position m : ℕ) : Type 0 where
   pub member : Member
   pub index : ℕ
@@ -79,11 +79,12 @@ pub record IsExchanged (line : List Member) (task serial : ℕ) (image : List �
 abbrev pub IsExchangedIfProgrammable : List Member → ℕ → List ℕ → List (List ℕ) → List (List ℕ) → List (List ℕ) → Type 0
 IsExchangedIfProgrammable line task image machines frames machines' = CanAllBeProgrammed line machines → IsExchanged line task (length (line_blocks line)) image machines frames machines'
 
--- they exchange the values where they carry the task, whatever other tasks' blocks they have
+-- machines exchange the values if they carry the task, whatever other tasks' blocks they have
 abbrev pub IsExchangedByCarriers : List Member → ℕ → ℕ → List ℕ → List (List ℕ) → List (List ℕ) → List (List ℕ) → Type 0
 IsExchangedByCarriers line task serial image machines frames machines' = AreCarryingTask line task machines → IsExchanged line task serial image machines frames machines'
 
--- so over a wire that carries the task: the line's machines exchange the values, the machines outside the line stay as they were, and the wire carries the task as before
+-- an exchange over a wire that carries the task: the line's machines exchange the values, the machines outside the line stay as they were, and the wire carries
+-- the task as before
 pub record IsExchangedOnWire (line : List Member) (task serial : ℕ) (image : List ℕ) (wire : List WireMachine) (frames machines' : List (List ℕ)) : Type 0 where
   pub wire' : List WireMachine
   pub machines_are : machines' ≡ wire_machines wire'

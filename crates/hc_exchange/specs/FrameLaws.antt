@@ -1,4 +1,4 @@
--- Frames of logical datagrams through the machines of a line, and their working counters. Each law is the contract of a function of `laws`.
+-- Laws of frames of logical datagrams through the machines of a line, and of their working counters. Each is the contract of a function of `carrying_laws`.
 use Rattle.std.specs.Prelude.{◌≡◌, All, None, ℕ, ◌*◌, ◌%◌, List, [], ◌∷◌, length, map}
 use Rattle.hc_records.specs.AddressLaws.{LineHasDatagram}
 use Rattle.hc_records.specs.Image.{datagram_length, expected_counter, logical_address, task_places}
@@ -19,13 +19,13 @@ pub record PassesLogical (machines : List (List ℕ)) (serial address : ℕ) (by
       ≡ record { serial = serial; parts = logical_part address (data_through machines (8 * address) bytes) (count_through machines (8 * address) (length bytes) % 65536) ∷ [] }
   pub memories : machines_after_frame machines frame ≡ memories_after machines (8 * address) bytes
 
--- so is each such frame as it is sent
+-- each frame of a logical datagram passes machines so, as it is sent
 abbrev pub LogicalFramesPass : Type 0
 LogicalFramesPass =
     (machines : List (List ℕ)) (serial address : ℕ) (bytes : List ℕ) → All (λ m. length m ≡ MEMORY_BYTES) machines → CanBeCarried serial (sent_on_wire (lrw address bytes) ∷ [])
     → PassesLogical machines serial address bytes (frame_text serial (lrw address bytes ∷ []))
 
--- what the machines of a programmed line add to the working counter of a datagram of a task is the expected counter
+-- the machines of a programmed line add to the working counter of a task's datagram the expected counter
 abbrev pub CountersAreExpected : Type 0
 CountersAreExpected =
     (state : State) (machines : List (List ℕ)) (task datagram : ℕ) → IsConfigurable state → AreProgrammed (line state) machines → LineHasDatagram (line state) task datagram
@@ -36,11 +36,11 @@ pub record Addressed : Type 0 where
   pub address : ℕ
   pub bytes : List ℕ
 
--- it as the first logical bit and its data
+-- a logical datagram as its first logical bit and its data
 abbrev pub logical_of : Addressed → Logical
 logical_of d = record { from = 8 * d.address; bytes = d.bytes }
 
--- the datagrams as they come back where each goes through machines in a frame of its own, one after another
+-- the datagrams as they come back if each goes through machines in a frame of its own, one after another
 abbrev pub datagrams_after_machines : List (List ℕ) → List Addressed → List WireDatagram
 datagrams_after_machines machines [] = []
 datagrams_after_machines machines (d ∷ ds) =
@@ -53,7 +53,7 @@ pub record PassesAll (machines : List (List ℕ)) (serial : ℕ) (ds : List Addr
   pub reading : reading_of (frame_through machines frame) ≡ record { serial = serial; parts = datagrams_after_machines machines ds }
   pub memories : machines_after_frame machines frame ≡ all_after_frames machines (map logical_of ds)
 
--- so is each frame of logical datagrams as it is sent: they do in one frame what they do in frames of their own
+-- each frame of logical datagrams passes machines so, as it is sent: they do in one frame what they do in frames of their own
 abbrev pub SharedFramesPass : Type 0
 SharedFramesPass =
     (machines : List (List ℕ)) (serial : ℕ) (ds : List Addressed) → All (λ m. length m ≡ MEMORY_BYTES) machines

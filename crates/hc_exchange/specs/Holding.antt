@@ -1,4 +1,5 @@
--- What the machines of a wire hold if they hold what a record says of their registers: known blocks, and in each FMMU one of the contents that it may have. And which tasks they then carry.
+-- The machines of a wire that hold what a record says of their registers: known blocks, and in each FMMU one of the contents that it may have. Also the tasks
+-- that they then carry.
 use Rattle.std.specs.Prelude.{◌≡◌, false, true, ℕ, ◌+◌, ◌*◌, ◌<◌, ◌≤◌, ◌⊎◌, All, Contains, List, Some, length, replicate, slice_get, slice_range}
 use Rattle.hc_bits.specs.Bits.{AreBytes}
 use Rattle.hc_records.specs.declared.records.Slave.{Slave}
@@ -23,7 +24,7 @@ use Rattle.hc_exchange.specs.Writing.{IsMachineOf}
 abbrev pub HoldsContents : MayHold → List ℕ → Type 0
 HoldsContents held bytes = (bytes ≡ replicate FMMU_BLOCK_BYTES 0) ⊎ Contains held.contents bytes
 
--- so they are, unless the register is unknown
+-- the bytes of an FMMU are zeros or one of its contents, unless the register is unknown
 abbrev pub MayHoldBytes : MayHold → List ℕ → Type 0
 MayHoldBytes held bytes = held.unknown ≡ false → HoldsContents held bytes
 
@@ -35,7 +36,8 @@ pub record HoldsRegisters (history : History) (member : Member) (memory : List �
       → slice_range memory block.block.register (block.block.register + length block.block.bytes) ≡ bytes
   pub held : (index : ℕ) → index < length member.slave.areas → MayHoldBytes (may_hold history member.slave.station (2 * index + 1)) (fmmu_block_at memory index)
 
--- the machine of a declared slave outside the line that wasn't said to be unplugged: the FMMU of each of its areas holds zeros or one of its contents, the others zeros
+-- the machine of a declared slave outside the line that was not said to be unplugged: the FMMU of each of its areas holds zeros or one of its contents, the
+-- others zeros
 pub record IsPlugged (history : History) (memory : List ℕ) : Type 0 where
   pub slave : Slave
   pub outside : Contains (slaves_outside (state_of history)) slave
@@ -76,6 +78,6 @@ IsExchangedWhenReady line task serial image machines frames machines' =
     (history : History) (wire : List WireMachine) → IsRecord history → line_of history ≡ line → machines ≡ wire_machines wire → HoldRegisters history wire → is_ready history task ≡ true
     → IsExchangedOnWire line task serial image wire frames machines'
 
--- and the line of each such record can be configured
+-- the line of each such record can be configured
 abbrev pub RecordsAreConfigurable : Type 0
 RecordsAreConfigurable = (history : History) → IsRecord history → IsConfigurable (state_of history)

@@ -1,4 +1,4 @@
--- What follows from the definitions of packing, blocks and slave machine for a line's FMMUs. Each is the contract of a function of `laws`.
+-- Laws of a line's FMMUs, from the definitions of packing, blocks and slave machine. Each is the contract of a function of `programmed_laws`.
 use Rattle.std.specs.Prelude.{◌≡◌, ℕ, ◌<◌, ◌↔◌, ◌⊎◌, AllPairs, Contains, List, None, Some, slice_get}
 use Rattle.hc_records.specs.declared.records.Area.{Area}
 use Rattle.hc_records.specs.declared.records.Dir.TheVariants.{Out, In}
@@ -21,7 +21,7 @@ BlocksPairTheirAreas =
     (area : Area) (mapping : Mapping) (x m : ℕ) → LiesInMemory area → IsMappable area mapping
     → IsPair (mapped_bytes area mapping) x m ↔ IsAreaPair area mapping x m
 
--- the block of an area that isn't mapped has no pair
+-- the block of an area that is not mapped has no pair
 abbrev pub UnmappedAreasPairNothing : Type 0
 UnmappedAreasPairNothing = (area : Area) (x m : ℕ) → ¬ IsPair (fmmu_bytes area None) x m
 
@@ -38,12 +38,12 @@ PairsAreOneToOne =
     (block : List ℕ)
     → ((x m n : ℕ) → IsPair block x m → IsPair block x n → m ≡ n) × ((x y m : ℕ) → IsPair block x m → IsPair block y m → x ≡ y)
 
--- what may be configured: the groups are a project's, and no task of the line has more than 16 datagrams
+-- a line that can be configured: the groups are a project's, and no task of the line has more than 16 datagrams
 pub record IsConfigurable (state : State) : Type 0 where
   pub project : lowest_fault (groups_of state.groups) ≡ None
   pub uncrowded : over_limit_task (line state) ≡ None
 
--- an area is in its task's list by its key and its width, and is mapped where it is
+-- an area is in its task's list by its key and its width, and is mapped at its place there
 pub record IsMappedInPlace (line : List Member) (member : Member) (index : ℕ) (area : Area) : Type 0 where
   pub placed : Placed
   pub in_task : Contains (task_places area.task line) placed
@@ -51,7 +51,7 @@ pub record IsMappedInPlace (line : List Member) (member : Member) (index : ℕ) 
   pub bits : placed.bits ≡ width area
   pub mapped : mapping_of line area.task (member_area_key member index area) ≡ Some (mapping_at area.task placed)
 
--- each area of the line that has a bit is mapped in its place, and one of 0 bits isn't
+-- each area of the line that has a bit is mapped in its place, and one of 0 bits is not
 abbrev pub AreasWithBitsAreMapped : Type 0
 AreasWithBitsAreMapped =
     (state : State) (member : Member) (index : ℕ) (area : Area) → IsConfigurable state → Contains (line state) member → slice_get member.slave.areas index ≡ Some area
@@ -62,18 +62,18 @@ AreasWithBitsAreMapped =
 abbrev pub LinesPairTheirAreas : Type 0
 LinesPairTheirAreas = (state : State) (station x m : ℕ) → IsConfigurable state → LineBlockPairs (line state) station x m ↔ LinePairs (line state) station x m
 
--- two blocks pair no logical bit both
+-- two blocks have no logical bit in common
 abbrev pub ShareNoLogicalBit : LineBlock → LineBlock → Type 0
 ShareNoLogicalBit a b = (x m n : ℕ) → IsBlockPair a x m → ¬ (IsBlockPair b x n)
 
--- no two blocks of the line do
+-- no two blocks of the line have a logical bit in common
 abbrev pub NoLogicalBitTwice : Type 0
 NoLogicalBitTwice = (state : State) → IsConfigurable state → AllPairs ShareNoLogicalBit (line_blocks (line state))
 
--- two blocks of one slave pair no memory bit both
+-- two blocks of one slave have no memory bit in common
 abbrev pub ShareNoMemoryBit : LineBlock → LineBlock → Type 0
 ShareNoMemoryBit a b = a.station ≡ b.station → (x y m : ℕ) → IsBlockPair a x m → ¬ (IsBlockPair b y m)
 
--- no two blocks of the line do
+-- no two blocks of one slave of the line have a memory bit in common
 abbrev pub NoMemoryBitTwice : Type 0
 NoMemoryBitTwice = (state : State) → IsConfigurable state → AllPairs ShareNoMemoryBit (line_blocks (line state))

@@ -26,7 +26,7 @@ pub record ComesBackGood (history : History) (frame : List Named) (wire : List W
   pub good : list_all has_good (judged_by (Sent frame ∷ history) (record { serial = next_serial history; parts = parts })) ≡ true
   pub data_are : map (λ part. part.bytes) parts ≡ all_through (line_machines wire) (map (sent_logical history) frame)
 
--- so does each frame of tasks that are ready, if the machines of the wire hold what the record says
+-- each frame of tasks that are ready comes back good, if the machines of the wire hold what the record says
 abbrev pub ReadyFramesComeBackGood : Type 0
 ReadyFramesComeBackGood =
     (history : History) (frame : List Named) (wire : List WireMachine) → IsRecord (Sent frame ∷ history) → HoldRegisters history wire → All (λ named. is_ready history named.0 ≡ true) frame

@@ -1,4 +1,5 @@
--- What the entries of a record do to the machines of a wire. Premises on the line stand here as definitions: frames pass each slave in the order in which they were handed to the line, and a frame comes back only if it passed all machines.
+-- The effect of a record's entries on the machines of a wire. Premises on the line stand here as definitions: frames pass each slave in the order in which they
+-- were handed to the line, and a frame comes back only if it passed all machines.
 use Rattle.std.specs.Prelude.{◌≡◌, ◌≢◌, false, true, ℕ, ◌+◌, ◌*◌, ◌<◌, ◌≤◌, ◌⊎◌, All, Bool, Contains, List, [], ◌∷◌, ◌++◌, Some, drop, length, replicate, slice_get, slice_range, take}
 use Rattle.std.specs.List.{list_any}
 use Rattle.hc_bits.specs.Bits.{AreBytes}
@@ -24,7 +25,7 @@ use Rattle.hc_exchange.specs.Writing.{IsMachineOf}
 
 -- frames
 
--- the machines after a frame that passed so many of the first ones: those after them did not meet it
+-- the machines after a frame that passed the first n of them: those after them did not meet it
 abbrev pub after_front : ℕ → List ℕ → List (List ℕ) → List (List ℕ)
 after_front n frame machines = machines_after_frame (take n machines) frame ++ drop n machines
 
@@ -86,7 +87,7 @@ pub record ChangesLine (history : History) (edit : Edit) (wire wire' : List Wire
 
 -- entries
 
--- what an entry does to the machines of the line
+-- the effect of an entry on the machines of the line
 abbrev pub MovesMachines : (ℕ → Bool) → History → HistoryEntry → List WireMachine → List WireMachine → Type 0
 MovesMachines passed history (Opened groups) wire wire' = ⊥
 MovesMachines passed history (Edited edit) wire wire' = ChangesLine history edit wire wire'
@@ -117,7 +118,7 @@ IsRun passed (Opened groups ∷ history) (wire ∷ wires) = IsOpenedWire (Opened
 IsRun passed (entry ∷ history) (wire' ∷ []) = ⊥
 IsRun passed (entry ∷ history) (wire' ∷ wire ∷ wires) = Goes passed history entry wire wire' × IsRun passed history (wire ∷ wires)
 
--- what is kept by each entry
+-- the invariant that entries keep
 
 -- the machine of a slave of the line took each block's last write, if the write's frame passed all machines, and holds in each FMMU what it may hold
 pub record TakesWrites (passed : ℕ → Bool) (history : History) (member : Member) (memory : List ℕ) : Type 0 where
@@ -127,7 +128,7 @@ pub record TakesWrites (passed : ℕ → Bool) (history : History) (member : Mem
       → passed write.0 ≡ true → slice_range memory block.block.register (block.block.register + length block.block.bytes) ≡ write.1
   pub held : (index : ℕ) → index < length member.slave.areas → MayHoldBytes (may_hold history member.slave.station (2 * index + 1)) (fmmu_block_at memory index)
 
--- so do the machines of the wire, and each block that had a good answer was in a frame that passed all machines
+-- the machines of the wire took their writes so, and each block that had a good answer was in a frame that passed all machines
 pub record TakeWrites (passed : ℕ → Bool) (history : History) (wire : List WireMachine) : Type 0 where
   pub count : length (line_machines wire) ≡ length (line_of history)
   pub each : (k : ℕ) (member : Member) (memory : List ℕ) → slice_get (line_of history) k ≡ Some member → slice_get (line_machines wire) k ≡ Some memory
@@ -139,13 +140,13 @@ pub record TakeWrites (passed : ℕ → Bool) (history : History) (wire : List W
 abbrev pub TakenWritesAreHeld : Type 0
 TakenWritesAreHeld = (passed : ℕ → Bool) (history : History) (wire : List WireMachine) → TakeWrites passed history wire → HoldRegisters history wire
 
--- each entry keeps it
+-- each entry keeps the writes that the machines of the wire took
 abbrev pub EntriesKeepRegisters : Type 0
 EntriesKeepRegisters =
     (passed : ℕ → Bool) (history : History) (entry : HistoryEntry) (wire wire' : List WireMachine) → IsRecord (entry ∷ history) → TakeWrites passed history wire
     → Goes passed history entry wire wire' → TakeWrites passed (entry ∷ history) wire'
 
--- so the machines of a run hold what its record says
+-- the machines of a run hold what its record says
 abbrev pub RunsHoldRegisters : Type 0
 RunsHoldRegisters =
     (passed : ℕ → Bool) (history : History) (wire : List WireMachine) (wires : List (List WireMachine)) → IsRecord history → IsRun passed history (wire ∷ wires) → HoldRegisters history wire

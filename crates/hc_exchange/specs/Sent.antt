@@ -1,4 +1,4 @@
--- What is sent for a task over a programmed line: its datagrams with packed output bytes, each in a frame of its own.
+-- The datagrams of a task as they are sent over a programmed line: with packed output bytes, each in a frame of its own.
 use Rattle.std.specs.Prelude.{◌≡◌, ℕ, ◌+◌, ◌<◌, List, [], ◌∷◌, Some, length, map}
 use Rattle.std.specs.List.{range_with_len}
 use Rattle.hc_bits.specs.Bits.{AreBytes, bit_of}
@@ -14,7 +14,7 @@ use Rattle.hc_places.specs.Table.{datagrams_in, table_of}
 use Rattle.hc_images.specs.Packed.{LiesInTaskPlace}
 use Rattle.hc_exchange.specs.WritingLaws.{machines_written}
 
--- how many datagrams a task of the line has; none where the line has no such task
+-- the number of datagrams of a task of the line; 0 if the line has no such task
 abbrev pub task_datagram_count : List Member → ℕ → ℕ
 task_datagram_count line task = length (datagrams_in (table_of line) task)
 
@@ -32,11 +32,12 @@ pub record IsPacked (line : List Member) (task : ℕ) (image : List ℕ) (d : �
       → bit_of bytes (place.bit + k) ≡ bit_of image (place_bit line place + k)
   pub others : (k : ℕ) → ((variable : ℕ) (place : VariablePlace) → IsVariable line task Out variable place → ¬ LiesInTaskPlace place task d k) → bit_of bytes k ≡ 0
 
--- so many datagrams of a task with these data, in their order: an LRW each (ETG.1000.4, 5.4), in a frame of its own, with serials from this one on
+-- the frames of the first `count` datagrams of a task with these data, in their order: an LRW each (ETG.1000.4, 5.4), in a frame of its own, with serials from
+-- this one on
 abbrev pub task_frames : ℕ → ℕ → ℕ → (ℕ → List ℕ) → List (List ℕ)
 task_frames serial task count bytes = map (λ d. frame_text (serial + d) (lrw (logical_address task d) (bytes d) ∷ [])) (range_with_len 0 count)
 
--- these frames of a task go through machines, with serials from this one on: what comes back, and what the machines then are
+-- the frames of a task go through machines, with serials from this one on: the frames that come back, and the machines after them
 pub record IsSentOver (line : List Member) (task serial : ℕ) (image : List ℕ) (machines frames machines' : List (List ℕ)) : Type 0 where
   pub bytes : ℕ → List ℕ
   pub packed : (d : ℕ) → d < task_datagram_count line task → IsPacked line task image d (bytes d)

@@ -39,14 +39,14 @@ AllInputsAreBroughtBack =
     → Meets state machines k member memory → HasBit ds n d bit → LinePairsIn (line state) In member.slave.station (d.from + bit) m → slice_get (all_through machines ds) n ≡ Some came
     → bit_of came bit ≡ bit_of memory m
 
--- where the datagrams are apart, each output's bit of each of them is the bit of its slave's memory after the last
+-- if the datagrams are apart, each output's bit of each of them is the bit of its slave's memory after the last
 abbrev pub AllOutputsArrive : Type 0
 AllOutputsArrive =
     (state : State) (machines : List (List ℕ)) (k : ℕ) (member : Member) (memory memory' : List ℕ) (ds : List Logical) (n : ℕ) (d : Logical) (bit m : ℕ)
     → Meets state machines k member memory → AllPairs LogicalsAreApart ds → HasBit ds n d bit → LinePairsIn (line state) Out member.slave.station (d.from + bit) m
     → slice_get (all_after_frames machines ds) k ≡ Some memory' → bit_of memory' m ≡ bit_of d.bytes bit
 
--- and every other bit of its memory is as it was
+-- every other bit of a slave's memory is as it was
 abbrev pub AllOtherMemoryStays : Type 0
 AllOtherMemoryStays =
     (state : State) (machines : List (List ℕ)) (k : ℕ) (member : Member) (memory memory' : List ℕ) (ds : List Logical) (m : ℕ)
@@ -54,7 +54,7 @@ AllOtherMemoryStays =
     → ((n : ℕ) (d : Logical) (bit : ℕ) → HasBit ds n d bit → ¬ LinePairsIn (line state) Out member.slave.station (d.from + bit) m)
     → slice_get (all_after_frames machines ds) k ≡ Some memory' → bit_of memory' m ≡ bit_of memory m
 
--- the line is programmed after them
+-- the line is programmed after the datagrams
 abbrev pub SequencesKeepTheLine : Type 0
 SequencesKeepTheLine =
     (state : State) (machines : List (List ℕ)) (ds : List Logical) → IsConfigurable state → AreProgrammed (line state) machines → AreProgrammed (line state) (all_after_frames machines ds)

@@ -34,7 +34,7 @@ pub record HaveTaskBlocks (line : List Member) (task : ℕ) (machines : List (Li
   pub count : length machines ≡ length line
   pub each : (k : ℕ) (member : Member) (memory : List ℕ) → slice_get line k ≡ Some member → slice_get machines k ≡ Some memory → HasTaskBlocks line task member memory
 
--- such machines carry the task
+-- machines with their slaves' parts of a task carry the task
 abbrev pub TaskBlocksCarry : Type 0
 TaskBlocksCarry =
     (state : State) (task : ℕ) (machines : List (List ℕ)) → IsConfigurable state → HaveTaskBlocks (line state) task machines → AreCarryingTask (line state) task machines
@@ -46,11 +46,11 @@ pub record IsInactive (task : ℕ) (member : Member) (memory : List ℕ) : Type 
   pub none : (i : ℕ) (area : Area) → ¬ IsTaskArea task member i area
   pub all_bytes : AreBytes memory
 
--- a tool that was just connected is such a machine: whatever its station register holds, it passes the task
+-- a machine without an active FMMU, as a tool that was just connected, has its slave's part of the task, whatever its station register holds
 abbrev pub FreshMachinesPass : Type 0
 FreshMachinesPass = (line : List Member) (task : ℕ) (member : Member) (memory : List ℕ) → IsInactive task member memory → HasTaskBlocks line task member memory
 
--- of the line's blocks those that are chosen
+-- the chosen ones of the line's blocks
 abbrev pub chosen_blocks : (LineBlock → Bool) → List Member → List LineBlock
 chosen_blocks choice line = filter choice (line_blocks line)
 
@@ -68,7 +68,7 @@ pub record IsBeforeTask (line : List Member) (task : ℕ) (member : Member) (mem
   pub others : (i x m : ℕ) → i < FMMUS → IsBitOfTask line task x → IsPair (fmmu_block_at memory i) x m → (area : Area) × IsTaskArea task member i area
   pub all_bytes : AreBytes memory
 
--- so are the machines of the line, in its order
+-- the machines are the line's, in its order, and each is so before the writes
 pub record AreBeforeTask (line : List Member) (task : ℕ) (machines : List (List ℕ)) : Type 0 where
   pub count : length machines ≡ length line
   pub each : (k : ℕ) (member : Member) (memory : List ℕ) → slice_get line k ≡ Some member → slice_get machines k ≡ Some memory → IsBeforeTask line task member memory

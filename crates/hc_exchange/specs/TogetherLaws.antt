@@ -11,7 +11,7 @@ use Rattle.hc_exchange.specs.Writing.{block_datagram, write_frames}
 abbrev pub joint_frame : ℕ → List LineBlock → List ℕ
 joint_frame serial blocks = frame_text serial (map block_datagram blocks)
 
--- where a frame can carry the writes, and there are serials enough for frames of one write each, both leave the machines of the line alike
+-- if a frame can carry the writes, and there are serials enough for frames of one write each, both leave the machines of the line alike
 abbrev pub JointFramesProgramAlike : Type 0
 JointFramesProgramAlike =
     (machines : List (List ℕ)) (serial first : ℕ) (blocks : List LineBlock) → All (λ memory. length memory ≡ MEMORY_BYTES) machines → CanBeCarried serial (map sent_on_wire (map block_datagram blocks))

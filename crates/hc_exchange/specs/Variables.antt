@@ -1,4 +1,4 @@
--- Where the variables of a line are in its slaves' memory.
+-- The places of a line's variables in its slaves' memory.
 use Rattle.std.specs.Prelude.{◌≡◌, ℕ, ◌+◌, ◌*◌, ◌<◌, Contains, List, Some, slice_get}
 use Rattle.hc_records.specs.declared.records.Area.{Area}
 use Rattle.hc_records.specs.Area.{assigned_entries}
@@ -7,7 +7,8 @@ use Rattle.hc_records.specs.Line.{Member, State, line}
 use Rattle.hc_exchange.specs.PairLaws.{IsConfigurable}
 use Rattle.hc_exchange.specs.Carrying.{LinePairsIn}
 
--- a variable with a place is in an area of a slave of the line: so many bits after the first of the area's memory, by the widths of the entries before it; each of its bits at the place is a pair of the area with the same bit there
+-- a variable with a place is in an area of a slave of the line, after the first bit of the area's memory by the widths of the entries before it; each of its
+-- bits at the place is a pair of the area with the same bit there
 pub record IsCarried (line : List Member) (variable : ℕ) (place : VariablePlace) : Type 0 where
   pub member : Member
   pub index : ℕ
@@ -19,7 +20,7 @@ pub record IsCarried (line : List Member) (variable : ℕ) (place : VariablePlac
   pub pairs : (k : ℕ) → k < place.bits
       → LinePairsIn line place.dir member.slave.station (8 * logical_address place.task place.datagram + place.bit + k) (8 * area.phys + offset + k)
 
--- so does each variable of a line
+-- each variable of a line that has a place is carried
 abbrev pub VariablesAreCarried : Type 0
 VariablesAreCarried =
     (state : State) (variable : ℕ) (place : VariablePlace) → IsConfigurable state → variable_place variable (line state) ≡ Some place → IsCarried (line state) variable place

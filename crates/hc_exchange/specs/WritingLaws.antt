@@ -1,4 +1,4 @@
--- What follows for the machines of a line once its blocks are written. Each is the contract of a function of `laws`.
+-- Laws of the machines of a line once its blocks are written. Each is the contract of a function of `programmed_laws`.
 use Rattle.std.specs.Prelude.{◌≡◌, ℕ, ◌↔◌, All, Contains, List, Some, length, slice_get}
 use Rattle.hc_bits.specs.Bits.{AreBytes}
 use Rattle.hc_records.specs.Line.{Member, State, line}
@@ -19,13 +19,13 @@ pub record MachineIsWritten (line : List Member) (member : Member) (memory : Lis
   pub programmed : IsProgrammed line member written
   pub alone : ChangesBlocksAlone memory written
 
--- so is each machine of the line
+-- each machine of the line is written so
 abbrev pub WritingProgramsTheLine : Type 0
 WritingProgramsTheLine =
     (state : State) (machines : List (List ℕ)) (k : ℕ) (member : Member) (memory : List ℕ) → IsConfigurable state → AreMachinesOf (line state) machines
     → slice_get (line state) k ≡ Some member → slice_get machines k ≡ Some memory → MachineIsWritten (line state) member memory k machines
 
--- there are as many of them
+-- the writes leave as many machines
 abbrev pub WritingKeepsTheCount : Type 0
 WritingKeepsTheCount =
     (state : State) (machines : List (List ℕ)) → IsConfigurable state → AreMachinesOf (line state) machines
@@ -37,7 +37,7 @@ ProgrammedSlavesPairTheirAreas =
     (state : State) (member : Member) (memory : List ℕ) (x m : ℕ) → IsConfigurable state → Contains (line state) member → IsProgrammed (line state) member memory
     → MachinePairs memory x m ↔ LinePairs (line state) member.slave.station x m
 
--- and where each number of the machines' memories is a byte, so is it after the writes
+-- if each number of the machines' memories is a byte, each is a byte after the writes
 abbrev pub WritingKeepsBytes : Type 0
 WritingKeepsBytes =
     (state : State) (machines : List (List ℕ)) → IsConfigurable state → AreMachinesOf (line state) machines → All AreBytes machines

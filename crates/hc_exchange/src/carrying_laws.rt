@@ -1,4 +1,4 @@
-//! What a programmed line makes of process data: each function here does nothing, and its contract is a law. Nobody calls it.
+//! Laws of process data over a programmed line: each function here does nothing, and its contract is a law. Nobody calls it.
 ghost use Rattle.hc_exchange.specs.CarryingLaws.{InputsAreBroughtBack, LinesStayProgrammed, OtherBitsComeBack, OtherMemoryStays, OutputsArrive, WrittenLinesAreProgrammed};
 ghost use Rattle.hc_exchange.specs.FrameLaws.{CountersAreExpected, LogicalFramesPass, SharedFramesPass};
 ghost use Rattle.hc_exchange.specs.Sequences.{AllInputsAreBroughtBack, AllOtherMemoryStays, AllOutputsArrive, SequencesKeepTheLine};
@@ -10,18 +10,18 @@ pub fn inputs_are_brought_back()
     ensures { InputsAreBroughtBack }
 {}
 
-/// Each bit of the data that is no input's comes back as it was sent.
+/// Through a programmed line, each bit of the data that is no input's comes back as it was sent.
 pub fn other_bits_come_back()
     ensures { OtherBitsComeBack }
 {}
 
-/// In a slave's memory after the datagram, each bit that is paired with one of the data by an output area is the bit that was
-/// sent.
+/// After a datagram through a programmed line, each memory bit that an output area pairs with a bit of the data is the bit that
+/// was sent.
 pub fn outputs_arrive()
     ensures { OutputsArrive }
 {}
 
-/// Every other bit of the memory is as it was.
+/// After a datagram through a programmed line, every other bit of a slave's memory is as it was.
 pub fn other_memory_stays()
     ensures { OtherMemoryStays }
 {}
@@ -32,8 +32,8 @@ pub fn lines_stay_programmed()
     ensures { LinesStayProgrammed }
 {}
 
-/// The frame of one logical datagram after machines is read: with its serial and its address, with the data that the machines
-/// make of it one after another, and with the sum of what they add to its working counter, modulo 65,536.
+/// The frame of one logical datagram is read after machines: with its serial and its address, and with the data that the
+/// machines make of it one after another. Its working counter is the sum of what they add, modulo 65,536.
 pub fn logical_frames_pass()
     ensures { LogicalFramesPass }
 {}
@@ -44,12 +44,12 @@ pub fn shared_frames_pass()
     ensures { SharedFramesPass }
 {}
 
-/// What the machines of a programmed line add to the working counter of a datagram of a task is the datagram's expected counter.
+/// The machines of a programmed line add to the working counter of a task's datagram exactly the datagram's expected counter.
 pub fn counters_are_expected()
     ensures { CountersAreExpected }
 {}
 
-/// Each variable with a place is in an area of a slave: its bits at the place are paired with as many bits of the slave's
+/// Each variable with a place is in an area of a slave. Its bits at the place are paired with as many bits of the slave's
 /// memory, which begin after the first bit of the area's by the widths of the entries before it.
 pub fn variables_are_carried()
     ensures { VariablesAreCarried }
@@ -66,18 +66,18 @@ pub fn all_inputs_are_brought_back()
     ensures { AllInputsAreBroughtBack }
 {}
 
-/// Where no two of the datagrams have a logical bit in common, each output's bit of each of them is in its slave's memory
-/// after the last.
+/// If no two of the datagrams have a logical bit in common, each output's bit of each of them is in its slave's memory after
+/// the last.
 pub fn all_outputs_arrive()
     ensures { AllOutputsArrive }
 {}
 
-/// Every other bit of the memory is as it was before the first.
+/// After datagrams through a programmed line, every other bit of a slave's memory is as it was before the first.
 pub fn all_other_memory_stays()
     ensures { AllOtherMemoryStays }
 {}
 
-/// The line is programmed after them.
+/// A programmed line is still programmed after datagrams one after another.
 pub fn sequences_keep_the_line()
     ensures { SequencesKeepTheLine }
 {}

@@ -15,15 +15,15 @@ use hc_plan::plan::Plan;
 use hc_segment::Segment;
 use std::alloc::{AllocError, Global};
 
-/// Each number of a byte slice is a byte. The call does nothing: its contract says so.
+/// Each number of a byte slice is a byte. The call does nothing: its contract states this.
 fn are_bytes(bytes: &[u8])
     ensures { AreBytes bytes.now }
 {
     let _ = bytes;
 }
 
-/// Each machine has all its memory, and each number there is a byte. The call changes nothing: a list's value doesn't say
-/// what its machines hold, each machine says it of its own.
+/// Each machine has all its memory, and each number there is a byte. The call changes nothing. It is needed since a list's
+/// value does not state the contents of its machines: each machine states its own.
 fn hold_bytes(segment: &Segment)
     ensures bytes { All AreBytes segment.now }
     ensures sizes { All (λ memory. length memory ≡ MEMORY_BYTES) segment.now }
@@ -59,17 +59,20 @@ fn send_all(segment: &mut Segment, frames: &mut Vec<Vec<u8>>)
     pass_all(segment, frames.as_mut_slice());
 }
 
-/// Writes every block of the plan's line through the segment as [`program`](crate::program) does, then sends a task's
-/// datagrams through it, each an LRW (ETG.1000.4, 5.4) in a frame of its own, with the serials after those of the writes.
-/// `outputs` is the task's image of output bytes: each output variable is sent as it is there, bits after its end being
-/// 0, and its other bits are ignored. It answers the frames as they come back, in their order; none for a task that has no
-/// datagrams, and for any task but 0 to 7. `AllocError` where a growth was refused: nothing was written then, and the
-/// machines are as they were.
+/// Writes every block of the plan's line through the segment as [`program`](crate::program) does, then sends a task's datagrams
+/// through it. Each is an LRW (ETG.1000.4, 5.4) in a frame of its own, with the serials after those of the writes. `outputs` is
+/// the task's image of output bytes: each output variable is sent as it is there, bits after its end are 0, and its other bits
+/// are ignored. Returns the frames as they come back, in their order. There are none for a task without datagrams, and for any
+/// task but 0 to 7.
 ///
-/// Where the machines are the line's, in its order, with their station addresses and zeros in the FMMU blocks past their
-/// slaves' areas, each frame is read, with the expected counter; each input variable comes back as it was in its slave's
-/// memory, each output variable is in its slave's memory as in `outputs`, and of the rest of process memory nothing is
-/// changed but the gaps of the task's output areas, which are 0.
+/// If the machines are the line's, in its order, with their station addresses and zeros in the FMMU blocks past their slaves'
+/// areas, each frame is read, with the expected counter. Each input variable comes back as it was in its slave's memory, and
+/// each output variable is in its slave's memory as in `outputs`. Of the rest of process memory nothing is changed but the gaps
+/// of the task's output areas, which are 0.
+///
+/// # Errors
+///
+/// `AllocError` if an allocation failed: nothing was written then, and the machines are as they were.
 pub fn exchange(
     alloc: Global,
     plan: &Plan,
@@ -91,24 +94,26 @@ pub fn exchange(
     Ok(frames)
 }
 
-/// Sends a task's datagrams through the segment, each an LRW (ETG.1000.4, 5.4) in a frame of its own, and writes no register:
-/// for a task whose own FMMU blocks are written while blocks of other tasks are not. The first frame has the serial `serial`,
-/// at most 2^40 - 16, and each next frame the serial after. `outputs` is the task's image of output bytes: each output
-/// variable is sent as it is there, bits after its end being 0, and its other bits are ignored. Returns the frames as they
-/// come back, in their order; none for a task that has no datagrams, and for any task but 0 to 7.
+/// Sends a task's datagrams through the segment, each an LRW (ETG.1000.4, 5.4) in a frame of its own, and writes no register.
+/// It is for a task whose own FMMU blocks are written while blocks of other tasks are not. The first frame has the serial
+/// `serial`, at most 2^40 - 16, and each next frame the serial after. `outputs` is the task's image of output bytes: each
+/// output variable is sent as it is there, bits after its end are 0, and its other bits are ignored. Returns the frames as they
+/// come back, in their order. There are none for a task without datagrams, and for any task but 0 to 7.
 ///
-/// The machines may be the line's alone, or others may stand anywhere between them. If each machine of the line has the
-/// FMMU blocks of its areas in the task, and no other FMMU on the wire pairs a logical bit of the task's datagrams, then each
-/// frame is read, with the expected counter; each input variable comes back as it was in its slave's memory; each output
-/// variable is in its slave's memory as in `outputs`; of the rest of the slaves' process memory nothing is changed but the
-/// gaps of the task's output areas, which are 0; the machines outside the line stay as they were; and the wire carries the
-/// task after the exchange as before. No station address and no sync manager has a part in this: LRW names no slave. So it is
-/// for each task that is ready (`SendReady` of the core) over machines that hold what the record says of their registers: see
-/// the laws of [`holding_laws`](crate::holding_laws).
+/// The machines may be the line's alone, or others may stand anywhere between them. The premise is that each machine of the
+/// line has the FMMU blocks of its areas in the task, and no other FMMU on the wire pairs a logical bit of the task's
+/// datagrams. Then each frame is read, with the expected counter. Each input variable comes back as it was in its slave's
+/// memory, and each output variable is in its slave's memory as in `outputs`. Of the rest of the slaves' process memory nothing
+/// is changed but the gaps of the task's output areas, which are 0. The machines outside the line stay as they were, and the
+/// wire carries the task after the exchange as before. No station address and no sync manager has a part in this: LRW names no
+/// slave.
+///
+/// The premise holds for each task that is ready (`SendReady` of the core) over machines that hold what the record says of
+/// their registers: see the laws of [`holding_laws`](crate::holding_laws).
 ///
 /// # Errors
 ///
-/// `AllocError` if an allocation was refused: no frame was sent then, and the machines are as they were.
+/// `AllocError` if an allocation failed: no frame was sent then, and the machines are as they were.
 pub fn exchange_ready(
     alloc: Global,
     plan: &Plan,

@@ -1,5 +1,5 @@
-//! What the slave machines hold of a record's registers, and which tasks they carry: each function here does nothing, and its
-//! contract is a law. Nobody calls it.
+//! Laws of the registers that slave machines hold by a record, and of the tasks that they carry: each function here does
+//! nothing, and its contract is a law. Nobody calls it.
 ghost use Rattle.hc_exchange.specs.Holding.{ReadyTasksAreCarried, RecordsAreConfigurable};
 ghost use Rattle.hc_exchange.specs.ReadyFrames.{ReadyFramesComeBackGood};
 ghost use Rattle.hc_exchange.specs.Runs.{EntriesKeepRegisters, RunsHoldRegisters, TakenWritesAreHeld};
@@ -9,22 +9,23 @@ pub fn records_are_configurable()
     ensures { RecordsAreConfigurable }
 {}
 
-/// If the machines of a wire hold what a record says of their registers, they carry each task that is ready: each slave of the
-/// line has the FMMU blocks of its areas in the task, and no other FMMU on the wire pairs a logical bit of the task, though
-/// blocks of other tasks are owed, and tools outside the line are still plugged.
+/// Machines of a wire that hold what a record says of their registers carry each task that is ready. Each slave of the line has
+/// the FMMU blocks of its areas in the task, and no other FMMU on the wire pairs a logical bit of the task. Blocks of other
+/// tasks may be owed, and tools outside the line may still be plugged.
 pub fn ready_tasks_are_carried()
     ensures { ReadyTasksAreCarried }
 {}
 
-/// Machines that took the writes of a record hold what the record says: each block's known bytes are at its register, and each
+/// Machines that took the writes of a record hold what the record says. Each block's known bytes are at its register, and each
 /// FMMU that is not unknown holds zeros or one of the contents that it may have.
 pub fn taken_writes_are_held()
     ensures { TakenWritesAreHeld }
 {}
 
-/// Each accepted entry of a record keeps what the machines of the line took of its writes, if frames pass each slave in the
-/// order in which they were handed to the line (all machines of the wire, or a front of them), a frame comes back only if it
-/// passed all machines, a slave that was cleared has zeros in its FMMUs, and one that lost its registers zeros or what it had.
+/// Each accepted entry of a record keeps what the machines of the line took of its writes, under four premises. Frames pass
+/// each slave in the order in which they were handed to the line: all machines of the wire, or the first ones. A frame comes
+/// back only if it passed all machines. A slave that was cleared has zeros in its FMMUs. One that lost its registers has zeros
+/// there, or what it had.
 pub fn entries_keep_registers()
     ensures { EntriesKeepRegisters }
 {}
@@ -35,9 +36,9 @@ pub fn runs_hold_registers()
     ensures { RunsHoldRegisters }
 {}
 
-/// A frame of ready tasks comes back good from a wire that holds what the record says: it is read, each of its datagrams has the
-/// expected working counter, and the data are what the line's machines alone make of them, though blocks of other tasks are
-/// owed, and tools outside the line are still plugged.
+/// A frame of ready tasks comes back good from a wire that holds what the record says. It is read, each of its datagrams has
+/// the expected working counter, and the data are what the line's machines alone make of them. Blocks of other tasks may be
+/// owed, and tools outside the line may still be plugged.
 pub fn ready_frames_come_back_good()
     ensures { ReadyFramesComeBackGood }
 {}

@@ -1,5 +1,5 @@
-//! The programmed line: the blocks of a plan are written through a segment of slave machines, and a task's process data
-//! is sent through them. The laws say what the blocks mean to the slaves, and that each variable is carried, each bit,
+//! The programmed line: the blocks of a plan are written through a segment of slave machines, and a task's process data is sent
+//! through them. The laws state what the blocks mean to the slaves. They also state that each bit of each variable is carried,
 //! and nothing else, by a programmed line, and by a wire that carries the variable's task whatever else its FMMUs pair.
 #![tactic(auto)]
 

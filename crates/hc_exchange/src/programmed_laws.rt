@@ -1,5 +1,5 @@
-//! What the register blocks of a line mean to the slaves: each function here does nothing, and its contract is a law. Nobody
-//! calls it.
+//! Laws of the register blocks of a line, and of their meaning to the slaves: each function here does nothing, and its contract
+//! is a law. Nobody calls it.
 ghost use Rattle.hc_exchange.specs.PairLaws.{AreasWithBitsAreMapped, BlocksGoOneWay, BlocksPairTheirAreas, LinesPairTheirAreas, NoLogicalBitTwice, NoMemoryBitTwice, PairsAreOneToOne, UnmappedAreasPairNothing};
 ghost use Rattle.hc_exchange.specs.TogetherLaws.{JointFramesProgramAlike};
 ghost use Rattle.hc_exchange.specs.WritingLaws.{ProgrammedSlavesPairTheirAreas, WritingKeepsBytes, WritingKeepsTheCount, WritingProgramsTheLine};
@@ -45,24 +45,24 @@ pub fn no_memory_bit_twice()
     ensures { NoMemoryBitTwice }
 {}
 
-/// The machines of a line, after an FPWR of each of its blocks in line and block order: each has its slave's blocks at their
-/// registers and zeros in the FMMU blocks past them, and no byte below the FMMU blocks (the station address and the alias are
-/// there) and none of process memory is changed.
+/// The machines of a line, after an FPWR of each of its blocks in line and block order, have their slaves' blocks at their
+/// registers, and zeros in the FMMU blocks past them. No byte below the FMMU blocks, where the station address and the alias
+/// are, and none of process memory is changed.
 pub fn writing_programs_the_line()
     ensures { WritingProgramsTheLine }
 {}
 
-/// They are as many machines as before.
+/// The writes of a line's blocks leave as many machines as before.
 pub fn writing_keeps_the_count()
     ensures { WritingKeepsTheCount }
 {}
 
-/// The sixteen FMMUs of a slave that is programmed so pair the bits of its areas, where packing puts them, and no others.
+/// The sixteen FMMUs of a slave that is programmed so pair exactly the bits of its areas, where packing puts them.
 pub fn programmed_slaves_pair_their_areas()
     ensures { ProgrammedSlavesPairTheirAreas }
 {}
 
-/// Where each number of the machines' memories is a byte, so is it after the writes.
+/// If each number of the machines' memories is a byte, each is a byte after the writes of the line's blocks too.
 pub fn writing_keeps_bytes()
     ensures { WritingKeepsBytes }
 {}

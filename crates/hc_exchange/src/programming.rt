@@ -25,11 +25,11 @@ fn write_block(segment: &mut Segment, serial: u64, station: u16, block: &Block)
 }
 
 /// Writes every block of the plan's line through the segment, in line and block order: each an FPWR (ETG.1000.4, 5.4) in a
-/// frame of its own, with serials from 0 on. It takes no memory.
+/// frame of its own, with serials from 0 on. It does not allocate.
 ///
-/// Where the machines are the line's, in its order, with their station addresses and zeros in the FMMU blocks past their
-/// slaves' areas, each has its slave's blocks then, pairs the bits of its areas and no others, and is otherwise as before:
-/// the laws of `programmed_laws`.
+/// If the machines are the line's, in its order, with their station addresses and zeros in the FMMU blocks past their slaves'
+/// areas, each has its slave's blocks then, pairs exactly the bits of its areas, and is otherwise as before: the laws of
+/// `programmed_laws`.
 pub fn program(plan: &Plan, segment: &mut Segment)
     ensures { segment.new ≡ machines_written (line plan.now) segment.old }
 {

@@ -18,7 +18,7 @@ use hc_records::task::Task;
 use hc_registers::fmmu::logical_address;
 use std::alloc::{AllocError, Global};
 
-/// The output values of a task's image, packed as they are sent. `AllocError` where a growth was refused.
+/// The output values of a task's image, packed as they are sent. `AllocError` if an allocation failed.
 pub(crate) fn packed(
     alloc: Global,
     places: &Places,
@@ -50,7 +50,7 @@ fn write_lrw(out: &mut [u8], serial: u64, address: u32, bytes: &[u8])
     padding.fill(0);
 }
 
-/// Such a frame in memory of its own. `AllocError` where the growth was refused.
+/// The frame of one LRW datagram with these data, in memory of its own. `AllocError` if the allocation failed.
 fn frame_of(alloc: Global, serial: u64, address: u32, bytes: &[u8]) -> Result<Vec<u8>, AllocError>
     requires serial { serial < 2 ^ 40 }
     requires size { length bytes.now ≤ MAX_DATA }
@@ -61,7 +61,7 @@ fn frame_of(alloc: Global, serial: u64, address: u32, bytes: &[u8]) -> Result<Ve
     Ok(frame)
 }
 
-/// The frames of a task's first datagrams, so many, with serials from one on. `AllocError` where a growth was refused.
+/// The frames of a task's first `count` datagrams, with serials from `serial` on. `AllocError` if an allocation failed.
 pub(crate) fn frames_of(
     alloc: Global,
     serial: u64,

@@ -1,5 +1,5 @@
-//! What the machines of a wire make of the datagrams that they carry, whatever their other FMMUs pair: each function here does
-//! nothing, and its contract is a law. Nobody calls it.
+//! Laws of the datagrams that the machines of a wire carry, whatever their other FMMUs pair: each function here does nothing,
+//! and its contract is a law. Nobody calls it.
 ghost use Rattle.hc_exchange.specs.AskedLaws.{AllAskedInputsAreBroughtBack, AllAskedOutputsArrive, AskedInputsAreBroughtBack, AskedOutputsArrive, HoldsForTasks, LessAskedCarries, LinesStayCarrying, MemoryBesideAllAskedStays, MemoryBesideAskedStays, OtherAskedBitsComeBack, ProgrammedLinesCarry, SequencesKeepCarrying, TaskCountersAreExpected};
 ghost use Rattle.hc_exchange.specs.TaskBlocks.{FreshMachinesPass, TaskBlocksCarry, WritingCarriesTheTask};
 ghost use Rattle.hc_exchange.specs.WireLaws.{OutsidersPassDatagrams, WiresStayCarrying};
@@ -15,8 +15,8 @@ pub fn less_asked_carries()
     ensures { LessAskedCarries }
 {}
 
-/// Through machines that carry each bit of a logical datagram, each bit of the data that is an input's becomes the bit of its
-/// slave's memory as it was before the datagram, whatever the machines' other FMMUs pair.
+/// Machines that carry each bit of a logical datagram bring its inputs back. Each bit of the data that is an input's becomes
+/// the bit of its slave's memory as it was before the datagram, whatever the machines' other FMMUs pair.
 pub fn asked_inputs_are_brought_back()
     ensures { HoldsForTasks AskedInputsAreBroughtBack }
 {}
@@ -51,7 +51,7 @@ pub fn task_counters_are_expected()
     ensures { TaskCountersAreExpected }
 {}
 
-/// Logical datagrams one after another, each in a frame of its own, through machines that carry each of their bits: each
+/// Logical datagrams go one after another, each in a frame of its own, through machines that carry each of their bits. Each
 /// input's bit of each datagram comes back as it was in its slave's memory before the first of them.
 pub fn all_asked_inputs_are_brought_back()
     ensures { HoldsForTasks AllAskedInputsAreBroughtBack }
@@ -74,7 +74,7 @@ pub fn sequences_keep_carrying()
     ensures { HoldsForTasks SequencesKeepCarrying }
 {}
 
-/// Machines outside the line that pair no bit of a logical datagram do nothing to it, wherever on the wire they are: it comes
+/// Machines outside the line that pair no bit of a logical datagram do nothing to it, wherever on the wire they are. It comes
 /// back with the data and the counter of the line's machines alone, and they stay as they were.
 pub fn outsiders_pass_datagrams()
     ensures { HoldsForTasks OutsidersPassDatagrams }
@@ -85,14 +85,14 @@ pub fn wires_stay_carrying()
     ensures { HoldsForTasks WiresStayCarrying }
 {}
 
-/// Machines carry a task if each has the FMMU blocks of its slave's areas in the task, and no other FMMU of it pairs a logical bit
-/// of the task's datagrams: other tasks' blocks need not be written.
+/// Machines carry a task if each has the FMMU blocks of its slave's areas in the task, and no other FMMU of it pairs a logical
+/// bit of the task's datagrams. Other tasks' blocks need not be written.
 pub fn task_blocks_carry()
     ensures { TaskBlocksCarry }
 {}
 
-/// A machine without an active FMMU has its slave's part of each task without an area of the slave: a tool that was just docked
-/// passes the other tasks, even before it has a station address.
+/// A machine without an active FMMU has its slave's part of each task without an area of the slave. So a tool that was just
+/// docked passes the other tasks, even before it has a station address.
 pub fn fresh_machines_pass()
     ensures { FreshMachinesPass }
 {}

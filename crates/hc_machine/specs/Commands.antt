@@ -17,11 +17,11 @@ register_of address = address / 65536
 abbrev pub lies_in_memory : ℕ → ℕ → Bool
 lies_in_memory address n = nat_le (register_of address + n) MEMORY_BYTES
 
--- a position of 0 names this slave
+-- a position of 0 names this slave, and n bytes from the register on lie in memory
 abbrev pub is_at_position : ℕ → ℕ → Bool
 is_at_position address n = (address % 65536 == 0) && lies_in_memory address n
 
--- so does the number in its station register
+-- the number in its station register names this slave, and n bytes from the register on lie in memory
 abbrev pub is_at_station : List ℕ → ℕ → ℕ → Bool
 is_at_station memory address n = (word_at memory STATION_REGISTER == address % 65536) && lies_in_memory address n
 
@@ -40,7 +40,7 @@ memory_after_command Apwr memory address bytes = if is_at_position address (leng
 memory_after_command Fpwr memory address bytes = if is_at_station memory address (length bytes) then register_written memory (register_of address) bytes else memory
 memory_after_command Lrw memory address bytes = logical_memory memory (8 * address) bytes
 
--- its data
+-- the data of a datagram after a slave
 abbrev pub data_after : Command → List ℕ → ℕ → List ℕ → List ℕ
 data_after Aprd memory address bytes =
     if is_at_position address (length bytes) then slice_range memory (register_of address) (register_of address + length bytes) else bytes
@@ -48,14 +48,14 @@ data_after Apwr memory address bytes = bytes
 data_after Fpwr memory address bytes = bytes
 data_after Lrw memory address bytes = logical_data memory (8 * address) bytes
 
--- its address
+-- the address of a datagram after a slave
 abbrev pub address_after : Command → ℕ → ℕ
 address_after Aprd address = next_position address
 address_after Apwr address = next_position address
 address_after Fpwr address = address
 address_after Lrw address = address
 
--- what is added to its working counter
+-- the number that is added to a datagram's working counter
 abbrev pub counter_added : Command → List ℕ → ℕ → ℕ → ℕ
 counter_added Aprd memory address n = if is_at_position address n then 1 else 0
 counter_added Apwr memory address n = if is_at_position address n then 1 else 0

@@ -38,7 +38,8 @@ first_memory block = min (8 * word_at block 8 + slice_index block 10 % 8) MEMORY
 abbrev pub idle : Fmmu
 idle = record { logical = 0; memory = 0; width = 0; reads = false; writes = false }
 
--- the FMMU of a block: one logical bit after the other with one memory bit after the other, up to the last logical bit or the end of memory. One that isn't active pairs nothing
+-- the FMMU of a block: one logical bit after the other with one memory bit after the other, up to the last logical bit or the end of memory. One that is not
+-- active pairs nothing
 unfoldable pub fmmu_of : List ℕ → Fmmu
 fmmu_of block =
     if is_active block

@@ -4,12 +4,12 @@ use Rattle.hc_frames.specs.Arrived.{datagram_bytes, fault_in, reading_of}
 use Rattle.hc_frames.specs.FrameText.{WireDatagram, carried_frame}
 use Rattle.hc_machine.specs.Commands.{memory_after_datagram, served}
 
--- datagrams as they go on
+-- the datagrams as a slave passes them on
 abbrev pub all_served : List ℕ → List WireDatagram → List WireDatagram
 all_served memory [] = []
 all_served memory (d ∷ ds) = served memory d ∷ all_served (memory_after_datagram memory d) ds
 
--- the memory after them
+-- the memory after the datagrams
 abbrev pub memory_after_datagrams : List ℕ → List WireDatagram → List ℕ
 memory_after_datagrams memory [] = memory
 memory_after_datagrams memory (d ∷ ds) = memory_after_datagrams (memory_after_datagram memory d) ds

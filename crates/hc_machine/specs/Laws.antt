@@ -1,4 +1,4 @@
--- What follows from the definitions: what an FMMU block pairs, what a logical datagram reads and writes, and what no frame changes.
+-- Laws of a slave machine: the pairs of an FMMU block, the bits that a logical datagram reads and writes, and what no frame changes.
 use Rattle.std.specs.Prelude.{◌≡◌, All, ℕ, ◌+◌, ◌-◌, ◌*◌, ◌%◌, ◌<◌, ◌≤◌, ◌↔◌, ◌⊎◌, true, List, is_none, length, slice_index}
 use Rattle.hc_bits.specs.Bits.{AreBytes, bit_of}
 use Rattle.hc_frames.specs.declared.limits.TheConstants.{ALIAS_REGISTER}
@@ -31,7 +31,7 @@ Pairs fmmu x m = (fmmu.logical ≤ x) × (x < fmmu.logical + fmmu.width) × (m �
 abbrev pub FmmusAreTheirPairs : Type 0
 FmmusAreTheirPairs = (block : List ℕ) (x m : ℕ) → IsPair block x m ↔ Pairs (fmmu_of block) x m
 
--- FMMU i reads logical bit x from memory bit m, or writes it there
+-- FMMU i is a reading one, and pairs logical bit x with memory bit m
 abbrev pub Reads : List ℕ → ℕ → ℕ → ℕ → Type 0
 Reads memory i x m = (is_read (fmmu_block_at memory i) ≡ true) × IsPair (fmmu_block_at memory i) x m
 
@@ -45,7 +45,7 @@ ReadBitsComeFromMemory =
     (memory bytes : List ℕ) (from k i m : ℕ) → k < 8 * length bytes → i < FMMUS → Reads memory i (from + k) m → ((j n : ℕ) → j < i → ¬ Reads memory j (from + k) n)
     → bit_of (logical_data memory from bytes) k ≡ bit_of memory m
 
--- one that no FMMU reads stays
+-- a bit of the data that no FMMU reads stays
 abbrev pub UnreadBitsStay : Type 0
 UnreadBitsStay =
     (memory bytes : List ℕ) (from k : ℕ) → k < 8 * length bytes → ((j n : ℕ) → j < FMMUS → ¬ Reads memory j (from + k) n)
@@ -58,7 +58,7 @@ WrittenBitsComeFromData =
     → ((j n : ℕ) → j < i → n < 8 * length bytes → ¬ FmmuWrites memory j (from + n) m)
     → bit_of (logical_memory memory from bytes) m ≡ bit_of bytes k
 
--- one that no FMMU pairs with a bit of the data stays
+-- a memory bit that no write FMMU pairs with a bit of the data stays
 abbrev pub UnwrittenBitsStay : Type 0
 UnwrittenBitsStay =
     (memory bytes : List ℕ) (from m : ℕ) → length memory ≡ MEMORY_BYTES → m < MEMORY_BITS → ((j n : ℕ) → j < FMMUS → n < 8 * length bytes → ¬ FmmuWrites memory j (from + n) m)
@@ -70,15 +70,15 @@ UnmappedDatagramsPass =
     (memory bytes : List ℕ) (from : ℕ) → length memory ≡ MEMORY_BYTES → AreBytes memory → AreBytes bytes → ((j n m : ℕ) → j < FMMUS → n < 8 * length bytes → ¬ IsPair (fmmu_block_at memory j) (from + n) m)
     → (logical_data memory from bytes ≡ bytes) × (logical_memory memory from bytes ≡ memory) × (logical_count memory from (length bytes) ≡ 0)
 
--- an FMMU reads one of the bits of n bytes of data, or writes one: into the alias too, which stays
+-- a read FMMU pairs one of the bits of n bytes of data from this logical bit on
 abbrev pub IsRead : List ℕ → ℕ → ℕ → Type 0
 IsRead memory from n = (i : ℕ) × (k : ℕ) × (m : ℕ) × (i < FMMUS) × (k < 8 * n) × Reads memory i (from + k) m
 
--- a write FMMU pairs one of the bits of n bytes of data from this logical bit on
+-- a write FMMU pairs one of the bits of n bytes of data from this logical bit on, also with a bit of the alias, which stays
 abbrev pub IsPairedForWriting : List ℕ → ℕ → ℕ → Type 0
 IsPairedForWriting memory from n = (i : ℕ) × (k : ℕ) × (m : ℕ) × (i < FMMUS) × (k < 8 * n) × FmmuWrites memory i (from + k) m
 
--- a working counter gives the pairs: 1 where a bit is read and 2 where one is written, however many there are
+-- a working counter gives the pairs: 1 if a bit is read and 2 if one is written, however many there are
 abbrev pub LogicalCountsSayPairs : Type 0
 LogicalCountsSayPairs =
     (memory : List ℕ) (from n : ℕ) → (r : ℕ) × (w : ℕ) × (logical_count memory from n ≡ r + w)

@@ -1,4 +1,4 @@
--- What a machine ends as, once the loan of its memory is over.
+-- The value of a machine, once the loan of its memory is over.
 use Rattle.std.specs.Prelude.{ℕ, List, ◌++◌, length, take, drop}
 use Rattle.std.specs.Borrow.{Lends, MutBor, Fml, Array, u8}
 use Rattle.hc_machine.specs.contracts.machine.SlaveMachine as machine

@@ -6,7 +6,7 @@ use Rattle.hc_frames.specs.Returned.{FitsLine}
 use Rattle.hc_machine.specs.Frames.{memory_after_datagrams, all_served}
 use Rattle.hc_machine.specs.Memory.{with_part}
 
--- its bytes with the address, the data and the working counter of another one of the same size
+-- a datagram's bytes with the address, the data and the working counter of another one of the same size
 abbrev pub rewritten : List ℕ → WireDatagram → List ℕ
 rewritten bytes d = with_part (10 + length d.bytes) (to_le_bytes w16 d.counter) (with_part 2 (to_le_bytes w32 d.address) (with_part 10 d.bytes bytes))
 

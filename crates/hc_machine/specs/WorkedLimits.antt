@@ -6,7 +6,7 @@ use Rattle.hc_machine.specs.declared.limits.TheConstants.{ACTIVATE_BYTE, FMMUS, 
 memory-bytes : MEMORY_BYTES ≡ 12288
 memory-bytes = refl
 
--- which are 98,304 bits
+-- a slave's memory has 98,304 bits
 memory-bits : MEMORY_BITS ≡ 98304
 memory-bits = refl
 

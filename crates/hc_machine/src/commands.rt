@@ -17,7 +17,7 @@ fn register_of(address: u32) -> usize
     (address / 65536) as usize
 }
 
-/// Whether `n` bytes from the register on lie in memory.
+/// True if `n` bytes from the register on lie in memory.
 fn lies_in_memory(address: u32, n: usize) -> bool
     requires { n ≤ MAX_DATA }
     ensures { result ≡ lies_in_memory address n }
@@ -25,7 +25,7 @@ fn lies_in_memory(address: u32, n: usize) -> bool
     register_of(address) + n <= MEMORY_BYTES
 }
 
-/// Whether a position names this slave, and `n` bytes from the register on lie in memory.
+/// True if a position names this slave, and `n` bytes from the register on lie in memory.
 fn is_at_position(address: u32, n: usize) -> bool
     requires { n ≤ MAX_DATA }
     ensures { result ≡ is_at_position address n }
@@ -33,7 +33,7 @@ fn is_at_position(address: u32, n: usize) -> bool
     address % 65536 == 0 && lies_in_memory(address, n)
 }
 
-/// Whether a station address names this slave, and `n` bytes from the register on lie in memory.
+/// True if a station address names this slave, and `n` bytes from the register on lie in memory.
 fn is_at_station(memory: &[u8], address: u32, n: usize) -> bool
     requires memory { length memory.now ≡ MEMORY_BYTES }
     requires short { n ≤ MAX_DATA }
@@ -56,7 +56,7 @@ pub(crate) fn address_after(command: Command, address: u32) -> u32
     }
 }
 
-/// Serves a read at a position, and answers what it adds to the working counter.
+/// Serves a read at a position, and returns the number that it adds to the working counter.
 fn serve_read(memory: &[u8], address: u32, bytes: &mut [u8]) -> u16
     requires memory { length memory.now ≡ MEMORY_BYTES }
     requires short { length bytes.old ≤ MAX_DATA }
@@ -70,7 +70,7 @@ fn serve_read(memory: &[u8], address: u32, bytes: &mut [u8]) -> u16
     1
 }
 
-/// Serves a write at a position, and answers what it adds to the working counter.
+/// Serves a write at a position, and returns the number that it adds to the working counter.
 fn serve_position(memory: &mut [u8], address: u32, bytes: &[u8]) -> u16
     requires memory { length memory.old ≡ MEMORY_BYTES }
     requires short { length bytes.now ≤ MAX_DATA }
@@ -84,7 +84,7 @@ fn serve_position(memory: &mut [u8], address: u32, bytes: &[u8]) -> u16
     1
 }
 
-/// Serves a write at a station, and answers what it adds to the working counter.
+/// Serves a write at a station, and returns the number that it adds to the working counter.
 fn serve_station(memory: &mut [u8], address: u32, bytes: &[u8]) -> u16
     requires memory { length memory.old ≡ MEMORY_BYTES }
     requires short { length bytes.now ≤ MAX_DATA }
@@ -98,8 +98,8 @@ fn serve_station(memory: &mut [u8], address: u32, bytes: &[u8]) -> u16
     1
 }
 
-/// Serves the data of a datagram, and answers what it adds to the working counter. `spare` has room for the data that
-/// came in.
+/// Serves the data of a datagram, and returns the number that it adds to the working counter. `spare` has room for the data
+/// that came in.
 pub(crate) fn serve(
     memory: &mut [u8],
     spare: &mut [u8],

@@ -19,7 +19,7 @@ pub(crate) struct Fmmu {
     pub(crate) logical: usize,
     /// The memory bit that is paired with it.
     pub(crate) memory: usize,
-    /// How many pairs there are.
+    /// The number of pairs.
     pub(crate) width: usize,
     /// The master reads through it.
     pub(crate) reads: bool,
@@ -71,7 +71,7 @@ fn fmmu_of(block: &[u8; 16]) -> Fmmu
     }
 }
 
-/// Whether an FMMU pairs one of the `n` logical bits from `from` on.
+/// True if an FMMU pairs one of the `n` logical bits from `from` on.
 pub(crate) fn meets(fmmu: &Fmmu, from: usize, n: usize) -> bool
     requires in_memory { IsInMemory fmmu.now }
     requires fits { from + n < 2 ^ 41 }
@@ -80,7 +80,7 @@ pub(crate) fn meets(fmmu: &Fmmu, from: usize, n: usize) -> bool
     fmmu.logical.max(from) < (fmmu.logical + fmmu.width).min(from + n)
 }
 
-/// Adds FMMU `i`, as it is in memory, where it pairs one of the `n` logical bits from `from` on.
+/// Adds FMMU `i`, as it is in memory, if it pairs one of the `n` logical bits from `from` on.
 fn add_mapped(mapped: &mut ArrayVec<Fmmu, 16>, memory: &[u8], i: usize, from: usize, n: usize)
     requires memory { length memory.now ≡ MEMORY_BYTES }
     requires number { i < FMMUS }
@@ -91,7 +91,7 @@ fn add_mapped(mapped: &mut ArrayVec<Fmmu, 16>, memory: &[u8], i: usize, from: us
     ensures room { length mapped.new.items ≤ length mapped.old.items + 1 }
     ensures in_memory { All IsInMemory mapped.new.items }
 {
-    // most aren't active: no more of their block is looked at than this
+    // most are not active: this byte alone of their block is read
     if memory[usize::from(FMMU_BLOCKS) + usize::from(FMMU_BLOCK_BYTES) * i + ACTIVATE_BYTE] % 2
         != 1
     {

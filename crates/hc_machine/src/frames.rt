@@ -13,14 +13,14 @@ use hc_frames::reading::{read_frame, word_at};
 /// The first byte of the EtherCAT header, after the Ethernet header.
 const HEADER_AT: usize = 14;
 
-/// Whether the reader reads a frame, so that slaves act on it.
+/// True if the reader reads a frame, so that slaves act on it.
 pub fn is_readable(frame: &[u8]) -> bool
     ensures { result ≡ is_none (fault_in frame.now) }
 {
     read_frame(frame).is_ok()
 }
 
-/// Where the datagrams of a frame that is read end.
+/// The offset at which the datagrams of a frame that is read end.
 fn end_of_datagrams(frame: &[u8]) -> usize
     requires { is_none (fault_in frame.now) ≡ true }
     ensures end { result ≡ 16 + datagram_bytes frame.now }
@@ -31,9 +31,9 @@ fn end_of_datagrams(frame: &[u8]) -> usize
     HEAD_BYTES + usize::from(word_at(frame, HEADER_AT) % LENGTHS)
 }
 
-/// Does what a slave does with a frame that the reader reads, in the frame's place, over memory that the caller keeps: the
-/// 12,288 bytes of the slave's memory, and 1,486 bytes of room for the data of a datagram, whatever they hold. The frame is
-/// read after it too. Takes no memory.
+/// Serves a frame that the reader reads as a slave does, in the frame's place, over memory that the caller keeps: the 12,288
+/// bytes of the slave's memory, and 1,486 bytes of room for the data of a datagram, whatever they hold. The frame is read after
+/// it too. It does not allocate.
 pub fn serve_frame(memory: &mut [u8], spare: &mut [u8], frame: &mut [u8])
     requires memory { length memory.old ≡ MEMORY_BYTES }
     requires spare { length spare.old ≡ MAX_DATA }

@@ -1,10 +1,10 @@
-//! What follows from the definitions of `specs/`, so that a reader can trust them and a caller can use it: each function
+//! Laws that follow from the definitions of `specs/`, so that a reader can trust them and a caller can use them: each function
 //! here does nothing, and its contract is a law. Nobody calls it.
 ghost use Rattle.hc_machine.specs.Laws.{AliasStays, CountersRise, FmmusAreTheirPairs, LogicalCountsSayPairs, ReadBitsComeFromMemory, ReturnedTextsComeBack, ServedFramesAreRead, SizesStay, UnmappedDatagramsPass, UnreadBitsStay, UnwrittenBitsStay, WrittenBitsComeFromData};
 
-/// An FMMU has exactly the pairs that its block says: the k-th logical bit with the k-th memory bit, from the start bit of
-/// the first byte to the stop bit of the last, as far as memory goes; none where it isn't active, where its length is 0, or
-/// where the last bit lies below the first.
+/// An FMMU has exactly the pairs that its block says: the k-th logical bit with the k-th memory bit, from the start bit of the
+/// first byte to the stop bit of the last, as far as memory goes. It has none if it is not active, if its length is 0, or if
+/// the last bit lies below the first.
 pub fn fmmus_are_their_pairs()
     ensures { FmmusAreTheirPairs }
 {}
@@ -25,7 +25,7 @@ pub fn written_bits_come_from_data()
     ensures { WrittenBitsComeFromData }
 {}
 
-/// A memory bit that no FMMU pairs with a bit of the datagram stays.
+/// A memory bit that no write FMMU pairs with a bit of the datagram stays.
 pub fn unwritten_bits_stay()
     ensures { UnwrittenBitsStay }
 {}
@@ -35,9 +35,8 @@ pub fn unmapped_datagrams_pass()
     ensures { UnmappedDatagramsPass }
 {}
 
-/// A logical datagram's working counter rises by 1 where an FMMU pairs a bit of it for reading, and by 2 where one pairs a bit
-/// of it for writing, each once however many bits and FMMUs there are. A bit written into the alias counts though the alias
-/// stays.
+/// A logical datagram's working counter rises by 1 if an FMMU pairs a bit of it for reading, and by 2 if one pairs a bit of it
+/// for writing, each once however many bits and FMMUs there are. A bit written into the alias counts though the alias stays.
 pub fn logical_counts_say_pairs()
     ensures { LogicalCountsSayPairs }
 {}
@@ -57,8 +56,8 @@ pub fn alias_stays()
     ensures { AliasStays }
 {}
 
-/// What may come back of a sending may come back of it after one more slave: its commands, sizes and addresses stay, but for
-/// a position, which is counted up.
+/// A returned text of a sending is a returned text of it after one more slave: its commands, sizes and addresses stay, but a
+/// position is counted up.
 pub fn returned_texts_come_back()
     ensures { ReturnedTextsComeBack }
 {}

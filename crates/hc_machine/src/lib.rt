@@ -1,6 +1,6 @@
-//! The slave machine: what a slave of the line does with a frame, so that a configuration can be held against it
-//! (ETG.1000.4, 5.4 and 6.6; this project's profile of them). It rests on the reader of frames and on runs of bits; a
-//! segment passes frames through a list of machines.
+//! The slave machine, which serves frames as a slave of the line does, so that a configuration can be held against it
+//! (ETG.1000.4, 5.4 and 6.6; this project's profile of them). It rests on the reader of frames and on runs of bits. A segment
+//! passes frames through a list of machines.
 #![tactic(auto)]
 
 mod commands;

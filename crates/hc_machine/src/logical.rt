@@ -1,5 +1,5 @@
-//! A logical memory read and write (ETG.1000.4, LRW): the pairs of each FMMU that the datagram meets go as one run of
-//! bits. The FMMUs are laid from the last to the first, so that where two meet the lower number decides.
+//! A logical memory read and write (ETG.1000.4, LRW): the pairs of each FMMU that the datagram meets go as one run of bits. The
+//! FMMUs are laid from the last to the first, so that the lower number decides if two meet.
 
 ghost use Rattle.std.specs.Prelude.{◌≡◌, ℕ, ◌+◌, ◌-◌, ◌*◌, ◌^◌, ◌<◌, ◌≤◌, length, take, [], ◌∷◌, All, filter, if◌then◌else◌};
 ghost use Rattle.std.specs.List.{list_any};
@@ -77,7 +77,7 @@ fn write_bits(fmmus: &[Fmmu], bytes: &[u8], from: usize, memory: &mut [u8])
     }
 }
 
-/// Whether one of the `n` logical bits from `from` on is read.
+/// True if one of the `n` logical bits from `from` on is read.
 fn reads_any(fmmus: &[Fmmu], from: usize, n: usize) -> bool
     requires in_memory { All IsInMemory fmmus.now }
     requires fits { from + n < 2 ^ 41 }
@@ -125,7 +125,7 @@ fn keep(spare: &mut [u8], bytes: &[u8])
     spare[..bytes.len()].copy_from_slice(bytes);
 }
 
-/// Whether a logical bit is both read and written.
+/// True if a logical bit is both read and written.
 fn mixes_any(fmmus: &[Fmmu]) -> bool
     requires in_memory { All IsInMemory fmmus.now }
     ensures { result ≡ mixes_any fmmus.now }
@@ -138,8 +138,8 @@ fn mixes_any(fmmus: &[Fmmu]) -> bool
     false
 }
 
-/// Puts the memory bits that are read into the data, and the data bits that came in into memory, by the FMMUs that the
-/// datagram meets. What came in is kept in `spare` where a bit of it is both read and written.
+/// Puts the memory bits that are read into the data, and the data bits that came in into memory, by the FMMUs that the datagram
+/// meets. The data that came in are kept in `spare` if a bit of them is both read and written.
 fn exchange_data(fmmus: &[Fmmu], memory: &mut [u8], spare: &mut [u8], from: usize, bytes: &mut [u8])
     requires mapped { fmmus.now ≡ filter (fmmu_meets from (8 * length bytes.old)) (fmmus_of memory.old) }
     requires in_memory { All IsInMemory fmmus.now }
@@ -161,21 +161,21 @@ fn exchange_data(fmmus: &[Fmmu], memory: &mut [u8], spare: &mut [u8], from: usiz
     write_data(fmmus, bytes, from, memory);
 }
 
-/// Whether one of the FMMUs reads.
+/// True if one of the FMMUs reads.
 fn any_reads(fmmus: &[Fmmu]) -> bool
     ensures { result ≡ list_any (λ f. f.reads) fmmus.now }
 {
     fmmus.iter().any(|fmmu| fmmu.reads)
 }
 
-/// Whether one of the FMMUs writes.
+/// True if one of the FMMUs writes.
 fn any_writes(fmmus: &[Fmmu]) -> bool
     ensures { result ≡ list_any (λ f. f.writes) fmmus.now }
 {
     fmmus.iter().any(|fmmu| fmmu.writes)
 }
 
-/// What the FMMUs that a datagram meets add to the working counter: 1 where one reads, 2 where one writes.
+/// The number that the FMMUs of a datagram add to the working counter: 1 if one reads, and 2 if one writes.
 fn count_of(fmmus: &[Fmmu]) -> u16
     ensures value { result ≡ (if list_any (λ f. f.reads) fmmus.now then 1 else 0) + (if list_any (λ f. f.writes) fmmus.now then 2 else 0) }
     ensures small { result ≤ 3 }
@@ -185,8 +185,8 @@ fn count_of(fmmus: &[Fmmu]) -> u16
     read + written
 }
 
-/// Serves a datagram at a logical address, and answers what it adds to the working counter. `spare` has room for the data
-/// that came in.
+/// Serves a datagram at a logical address, and returns the number that it adds to the working counter. `spare` has room for the
+/// data that came in.
 pub(crate) fn serve_logical(
     memory: &mut [u8],
     spare: &mut [u8],

@@ -56,8 +56,8 @@ fn fresh_memory(alloc: Global, alias: u16) -> Result<Vec<u8>, AllocError>
 }
 
 impl SlaveMachine {
-    /// A slave whose memory is zeros but for its configured station alias, 0 to 65,535 (ETG.1000.4, 6.1.2). `AllocError` where
-    /// the room was refused.
+    /// A slave whose memory is zeros but for its configured station alias, 0 to 65,535 (ETG.1000.4, 6.1.2). `AllocError` if an
+    /// allocation failed.
     pub fn new(alloc: Global, alias: u16) -> Result<SlaveMachine, AllocError>
         ensures { IfOk result (λ machine. machine ≡ fresh_memory alias) }
     {
@@ -66,8 +66,8 @@ impl SlaveMachine {
         Ok(SlaveMachine { memory, spare })
     }
 
-    /// Does what the slave does with a frame, in the frame's place. A frame that the reader doesn't read stays as it is; one
-    /// that it reads is read after the slave too. Takes no memory.
+    /// Serves a frame as the slave does, in the frame's place. A frame that the reader does not read stays as it is. One that
+    /// it reads can be read after the slave too. It does not allocate.
     pub fn process(&mut self, frame: &mut [u8])
         ensures frame { frame.new ≡ frame_after self.old frame.old }
         ensures memory { self.new ≡ memory_after self.old frame.old }
@@ -78,8 +78,8 @@ impl SlaveMachine {
         }
     }
 
-    /// Does what `process` does with a frame that the reader reads, and doesn't read it once more: who passes a frame through
-    /// many slaves reads it once, since it is read after each of them too. Takes no memory.
+    /// Serves a frame that the reader reads, as `process` does, and does not read it again. A caller that passes a frame
+    /// through many slaves reads it once, since it can be read after each of them too. It does not allocate.
     pub fn process_readable(&mut self, frame: &mut [u8])
         requires { is_none (fault_in frame.old) ≡ true }
         ensures frame { frame.new ≡ frame_after self.old frame.old }
@@ -97,7 +97,7 @@ impl SlaveMachine {
         self.memory.as_slice()
     }
 
-    /// Lends the bytes of its memory for writing, any of them: the alias and the registers too. Takes no memory.
+    /// Lends the bytes of the slave's memory for writing, any of them: the alias and the registers too. It does not allocate.
     pub fn memory_mut(&mut self) -> &mut [u8]
         ensures* written { sem 𝓛 (LendsMemory self.entry result) }
         ensures bytes { result.now ≡ self.old }
@@ -106,9 +106,8 @@ impl SlaveMachine {
         self.memory.as_mut_slice()
     }
 
-    /// Puts bytes in the place of those of its memory from byte `at` on, 0 to 12,288 less their number: any of them, the
-    /// alias and the registers too. Takes no memory. It is for callers whose proofs learn nothing from the loan of
-    /// `memory_mut`.
+    /// Writes bytes to the slave's memory from byte `at` on, 0 to 12,288 less their number: any of them, the alias and the
+    /// registers too. It does not allocate. It is for callers whose proofs learn nothing from the loan of `memory_mut`.
     pub fn write_memory(&mut self, at: usize, bytes: &[u8])
         requires within { at + length bytes.now ≤ MEMORY_BYTES }
         ensures { self.new ≡ with_part at bytes.now self.old }

@@ -1,4 +1,4 @@
--- What `projectcheck` prints for a project text, and its exit status.
+-- The printed text of `projectcheck` for a project text, and its exit status.
 use Rattle.std.specs.Prelude.{◌≡◌, ◌≤◌, ◌⊎◌, ℕ, List, ◌++◌, length, Option, Some, None, codes}
 use Rattle.std.specs.Fmt.{decimal}
 use Rattle.hc_project.specs.declared.located.Found.{Found}
@@ -16,7 +16,7 @@ use Rattle.hc_program.specs.Text.{unopened, unread}
 abbrev pub position_text : ℕ → ℕ → List ℕ
 position_text line column = codes "at line " ++ decimal line ++ codes " column " ++ decimal column ++ codes "\n"
 
--- what is printed: `ok` for a project, else the fault's line and the line of its place
+-- the printed text: `ok` for a project, else the fault's line and the line of its place
 abbrev pub answered_text : Option Found → List ℕ
 answered_text None = codes "ok\n"
 answered_text (Some (InText line column)) = project_fault_text project.NotToml ++ position_text line column
@@ -27,14 +27,14 @@ abbrev pub answered_status : Option Found → ℕ
 answered_status None = 0
 answered_status (Some found) = 3
 
--- the text and the status are those of something that is said of the project text
+-- the text and the status are those of a fault that the project text has, or of none if it is a project
 abbrev pub IsCheckedText : List ℕ → List ℕ → ℕ → Type 0
 IsCheckedText input text status = (found : Option Found) × LocatesFault input found × (text ≡ answered_text found) × (status ≡ answered_status found)
 
--- a run prints nothing, or what is said of an input that isn't too long
+-- a run prints nothing, or the checked text of an input that is not too long
 abbrev pub CheckOutcome : List ℕ → Outcome → Type 0
 CheckOutcome input outcome = (outcome ≡ unread) ⊎ (length input ≤ MOST_INPUT) × IsCheckedText input outcome.text outcome.status
 
--- where memory was refused a run prints nothing, or that it was
+-- if an allocation failed, a run prints nothing, or the fault of failed memory
 abbrev pub StarvedCheck : Outcome → Type 0
 StarvedCheck outcome = (outcome ≡ unread) ⊎ (outcome ≡ unopened (Project project.Memory))

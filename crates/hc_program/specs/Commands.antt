@@ -1,4 +1,4 @@
--- The commands: what each prints, and where it leaves the run.
+-- The commands: the printed text of each, and the state of the run after it.
 use Rattle.std.specs.Prelude.{ℕ, List}
 use Rattle.hc_events.specs.Points.{state_of}
 use Rattle.hc_events.specs.Steps.{Arrives, Edits, Reads, SendsTasks, SendsWrite}
@@ -18,7 +18,7 @@ use Rattle.hc_program.specs.Standings.{SessionState, session_edited, stepped}
 use Rattle.hc_program.specs.Takings.{take_text, session_taken}
 use Rattle.hc_program.specs.Views.{view_text}
 
--- what a command prints
+-- the printed text of a command
 abbrev pub printed : SessionState → Command → List ℕ
 printed s command.Layout = layout_text (state_of s.history)
 printed s (command.Regs station) = regs_text (state_of s.history) station
@@ -39,7 +39,8 @@ printed s (command.Cycle tasks) = cycle_text s tasks
 printed s (command.Poke poke) = poke_text s poke
 printed s (command.Peek peek) = peek_text s peek
 
--- where it leaves the run, before that is published: the record with what the core accepted, the machines after what met them, and the posts that wait
+-- the state after a command, before its changes are published: the record with what the core accepted, the machines after what met them, and the posts that
+-- wait
 abbrev pub session_left_by : SessionState → Command → SessionState
 session_left_by s command.Layout = s
 session_left_by s (command.Regs station) = s

@@ -7,7 +7,7 @@ use Rattle.hc_text.specs.Cutting.{lines_after}
 use Rattle.hc_program.specs.declared.turn.Turn as cut
 use Rattle.hc_program.specs.declared.turn.Turn.TheVariants as turn
 
--- a command line, by its number and its text; or a declaration, by the number of the line `declare`, with its document: none where no line `%%` ends that
+-- a command line, by its number and its text; or a declaration, by the number of the line `declare`, with its document: none if no line `%%` ends that
 pub data Turn : Type 0 where
   Says : ℕ → List ℕ → Turn
   Declares : ℕ → Option (List ℕ) → Turn
@@ -25,7 +25,7 @@ is_declare text = option_map_or (λ word. bytes_eq word (codes "declare")) (sole
 abbrev pub turn_at : Line → List Line → Turn
 turn_at line lines = if is_declare line.text then Declares line.number (closed_text lines) else Says line.number line.text
 
--- the turns of lines; where these begin in a document, of those after the line that ends it
+-- the turns of lines; if these begin in a document, the turns of those after the line that ends it
 abbrev pub turns_from : Bool → List Line → List Turn
 turns_from inside [] = []
 turns_from true (line ∷ lines) = turns_from (not (is_mark line)) lines

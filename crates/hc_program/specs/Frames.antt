@@ -1,4 +1,4 @@
--- How a frame is printed.
+-- The printed lines of frames.
 use Rattle.std.specs.Prelude.{ℕ, List, [], ◌∷◌, ◌++◌, codes}
 use Rattle.std.specs.List.{flat_map}
 use Rattle.std.specs.Fmt.{decimal}
@@ -11,7 +11,7 @@ use Rattle.hc_events.specs.Steps.{sent_text}
 unfoldable pub frame_line : List ℕ → ℕ → List ℕ → List ℕ
 frame_line word serial frame = word ++ decimal serial ++ codes ": " ++ hex_bytes frame ++ codes "\n"
 
--- a frame that would be sent next, and one that is sent
+-- the line of a frame that would be sent next, with its serial
 abbrev pub shown_line : ℕ → List ℕ → List ℕ
 shown_line serial frame = frame_line (codes "frame ") serial frame
 
@@ -19,11 +19,11 @@ shown_line serial frame = frame_line (codes "frame ") serial frame
 abbrev pub sent_line : ℕ → List ℕ → List ℕ
 sent_line serial frame = frame_line (codes "sent ") serial frame
 
--- frames that are proposed, each with its own serial
+-- the line of a frame that is proposed, with its own serial
 abbrev pub proposed_line : History → Frame → List ℕ
 proposed_line history frame = sent_line frame.serial (sent_text history frame)
 
--- these lines one after another, or the line `no frame` where there is no frame
+-- the lines of proposed frames one after another, or the line `no frame` if there is no frame
 abbrev pub proposed_text : History → List Frame → List ℕ
 proposed_text history [] = codes "no frame\n"
 proposed_text history (frame ∷ frames) = flat_map (proposed_line history) (frame ∷ frames)

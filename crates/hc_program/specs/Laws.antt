@@ -1,4 +1,4 @@
--- What follows from the definitions.
+-- Laws of a run.
 use Rattle.std.specs.Prelude.{◌≡◌, ◌⊎◌, ℕ, true, false, List, [], ◌∷◌, None, Ok}
 use Rattle.hc_records.specs.declared.records.Group.{Group}
 use Rattle.hc_records.specs.Line.{groups_of}
@@ -22,7 +22,7 @@ use Rattle.hc_program.specs.Stops.{WritesAreDone}
 abbrev pub HasNoWrite : History → Type 0
 HasNoWrite history = (owed_blocks history ≡ []) ⊎ (serials_left_count history ≡ 0)
 
--- so many writes were done; then one was sent that wasn't, and the run is where that left it
+-- this many writes were done; then one was sent that was not done, and the run is as that left it
 pub record MissesOne (s : SessionState) (p : Programmed) : Type 0 where
   pub before : SessionState
   pub done : WritesAreDone p.written s before
@@ -30,7 +30,7 @@ pub record MissesOne (s : SessionState) (p : Programmed) : Type 0 where
   pub missed : programming_is_done before ≡ false
   pub left : p.session_state ≡ block_programmed before
 
--- `program` does so many writes, and ends for one of three reasons: nothing is owed, no serial is left, or the next write was sent and wasn't done
+-- `program` does its writes, and ends for one of three reasons: nothing is owed, no serial is left, or the next write was sent and was not done
 abbrev pub ProgrammingEnds : Type 0
 ProgrammingEnds =
     (s : SessionState) → (WritesAreDone (programmed s).written s (programmed s).session_state × HasNoWrite (programmed s).session_state.history) ⊎ MissesOne s (programmed s)
@@ -40,12 +40,13 @@ pub record HasMachines (s : SessionState) : Type 0 where
   pub project : lowest_fault (groups_of (state_of s.history).groups) ≡ None
   pub each : HasEach (state_of s.history).groups s.machines
 
--- where turns of a run leave it, one after another
+-- the state of a run after turns, one after another
 abbrev pub left_by_turns : SessionState → List Turn → SessionState
 left_by_turns s [] = s
 left_by_turns s (turn ∷ turns) = left_by_turns (reply_to s turn).session_state turns
 
--- over a whole run each slave of the line has a machine: at the opening of a project, after any turns, after a turn that was stopped, and after a publishing; and where a slave of the line is looked for, its machine is found
+-- over a whole run each slave of the line has a machine: at the opening of a project, after any turns, after a turn that was stopped, and after a publishing;
+-- and the machine of a slave of the line is found by its station address
 pub record SlavesHaveMachines : Type 0 where
   pub opened : (groups : List Group) → lowest_fault groups ≡ None → HasMachines (opened_session_state (just_opened groups))
   pub answered : (s : SessionState) (turns : List Turn) → HasMachines s → HasMachines (left_by_turns s turns)

@@ -12,21 +12,21 @@ use Rattle.hc_text.specs.MemoryRanges.{Peeking, Poking}
 use Rattle.hc_program.specs.Refusals.{refusal_text}
 use Rattle.hc_program.specs.Standings.{SessionState, with_machines}
 
--- the position of the slave's machine, where the line has one there
+-- the position of a slave's machine, if the line has this many machines; else the fault
 abbrev pub machine_within : ℕ → Result ℕ EditFault → Result ℕ CoreFault
 machine_within count (Ok position) = if nat_lt position count then Ok position else Err Absent
 machine_within count (Err fault) = Err (edit_refusal fault)
 
--- the position of the machine of the slave with a station address, or why there is none
+-- the position of the machine of the slave with a station address, or the fault if there is none
 unfoldable pub machine_at : SessionState → ℕ → Result ℕ CoreFault
 machine_at s station = machine_within (length s.machines) (position_of (state_of s.history) station)
 
--- what a poke prints
+-- the printed text of a poke
 abbrev pub poke_answered : Result ℕ CoreFault → List ℕ
 poke_answered (Ok position) = codes "poked\n"
 poke_answered (Err fault) = refusal_text fault
 
--- the machines after it
+-- the machines after a poke
 abbrev pub poked_at : Result ℕ CoreFault → Poking → List (List ℕ) → List (List ℕ)
 poked_at (Ok position) p machines = poked position p.at p.part machines
 poked_at (Err fault) p machines = machines
@@ -35,7 +35,7 @@ poked_at (Err fault) p machines = machines
 abbrev pub poke_text : SessionState → Poking → List ℕ
 poke_text s p = poke_answered (machine_at s p.station)
 
--- where a poke leaves the run
+-- the state after a poke
 abbrev pub poked_session_state : SessionState → Poking → SessionState
 poked_session_state s p = with_machines s (poked_at (machine_at s p.station) p s.machines)
 
@@ -43,7 +43,7 @@ poked_session_state s p = with_machines s (poked_at (machine_at s p.station) p s
 unfoldable pub memory_text : ℕ → List ℕ → List ℕ
 memory_text at bytes = codes "mem " ++ hex_register at ++ codes ":" ++ spaced_bytes bytes ++ codes "\n"
 
--- what a peek prints
+-- the printed text of a peek
 abbrev pub peek_answered : Result ℕ CoreFault → Peeking → List (List ℕ) → List ℕ
 peek_answered (Ok position) p machines = memory_text p.at (slice_range (slice_index_or machines position []) p.at (p.at + p.count))
 peek_answered (Err fault) p machines = refusal_text fault

@@ -1,4 +1,4 @@
--- The command `place`: where a variable is.
+-- The command `place`: the place of a variable.
 use Rattle.std.specs.Prelude.{ℕ, List, ◌++◌, Option, Some, None, option_and_then, codes}
 use Rattle.std.specs.Fmt.{decimal}
 use Rattle.hc_records.specs.declared.records.Dir.{Dir}
@@ -34,7 +34,7 @@ variable_text number place =
     ++ decimal place.datagram
     ++ bits_text place
 
--- the line of the variable with its place (`variable_text`), or the line `none` where it has no place
+-- the line of the variable with its place (`variable_text`), or the line `none` if it has no place
 abbrev pub variable_or_none : ℕ → Option VariablePlace → List ℕ
 variable_or_none number None = codes "none\n"
 variable_or_none number (Some place) = variable_text number place
@@ -43,6 +43,6 @@ variable_or_none number (Some place) = variable_text number place
 abbrev pub numbered_place : ℕ → List Member → Option VariablePlace
 numbered_place number line = option_and_then (λ variable. variable_place variable line) (variable_of number)
 
--- what `place` prints of a variable's number: where it is in the state's line, or that it is nowhere
+-- the printed text of `place` for a variable's number: the variable's place in the state's line, or `none`
 unfoldable pub place_text : State → ℕ → List ℕ
 place_text state number = variable_or_none number (numbered_place number (line state))

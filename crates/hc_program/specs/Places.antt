@@ -1,4 +1,4 @@
--- How places of a project's text are printed.
+-- The printed places of a project's text.
 use Rattle.std.specs.Prelude.{ℕ, ◌-◌, ◌==◌, ◌||◌, not, is_some, Bool, true, if◌then◌else◌, List, [], ◌++◌, Option, Some, None, codes}
 use Rattle.std.specs.Fmt.{decimal}
 use Rattle.hc_project.specs.declared.places.Key.{Key}
@@ -6,7 +6,7 @@ use Rattle.hc_project.specs.declared.places.Key.TheVariants as key
 use Rattle.hc_project.specs.declared.places.Place.{Place}
 use Rattle.hc_project.specs.declared.places.Location.{Location}
 
--- a full stop where something is before it
+-- a full stop, if something is before it
 abbrev pub separator : Bool → List ℕ
 separator is_after = if is_after then codes "." else []
 
@@ -14,7 +14,7 @@ separator is_after = if is_after then codes "." else []
 unfoldable pub group_text : ℕ → List ℕ
 group_text group = if group == 0 then [] else codes "group[" ++ decimal (group - 1) ++ codes "]"
 
--- an item of an array, as `slave[2]`; nothing where the place lies in none
+-- an item of an array, as `slave[2]`; nothing if the place lies in none
 unfoldable pub array_text : Bool → List ℕ → Option ℕ → List ℕ
 array_text is_after name None = []
 array_text is_after name (Some index) = separator is_after ++ name ++ codes "[" ++ decimal index ++ codes "]"
@@ -44,7 +44,7 @@ key_name (key.Entry index) = item_text (codes "entries") index []
 key_name (key.Variable index) = item_text (codes "entries") index (codes "[0]")
 key_name (key.Bits index) = item_text (codes "entries") index (codes "[1]")
 
--- the same after what is before it; nothing for a table itself
+-- a key after what is before it; nothing for a table itself
 unfoldable pub key_text : Bool → Key → List ℕ
 key_text is_after key.Whole = []
 key_text is_after other = separator is_after ++ key_name other
@@ -59,11 +59,11 @@ path_text place =
     ++ array_text true (codes "pdo") place.pdo
     ++ key_text (in_group || is_some place.slave) place.key
 
--- an alias after a place; nothing where it isn't known
+-- an alias after a place; nothing if it is not known
 unfoldable pub place_alias_text : ℕ → List ℕ
 place_alias_text alias = if alias == 0 then [] else codes " alias " ++ decimal alias
 
--- a station address after a place; nothing where it isn't known
+-- a station address after a place; nothing if it is not known
 unfoldable pub station_text : ℕ → List ℕ
 station_text station = if station == 0 then [] else codes " station " ++ decimal station
 

@@ -10,7 +10,7 @@ use Rattle.hc_program.specs.Postings.{post_judged, with_posted}
 use Rattle.hc_program.specs.Refusals.{refusal_text}
 use Rattle.hc_program.specs.Standings.{SessionState}
 
--- the number of the reason why nothing is posted
+-- the number of the reason for which nothing is posted
 abbrev pub post_refusal_number : PostRefusal → ℕ
 post_refusal_number NoSuchVariable = 1
 post_refusal_number IsInput = 2
@@ -20,7 +20,7 @@ post_refusal_number NoSpare = 5
 post_refusal_number NoEntry = 7
 post_refusal_number Memory = 28
 
--- its name
+-- the name of a post's refusal
 abbrev pub post_refusal_name : PostRefusal → List ℕ
 post_refusal_name NoSuchVariable = codes "NoSuchVariable"
 post_refusal_name IsInput = codes "IsInput"
@@ -30,26 +30,26 @@ post_refusal_name NoSpare = codes "NoSpare"
 post_refusal_name NoEntry = codes "NoEntry"
 post_refusal_name Memory = codes "Memory"
 
--- its line
+-- the line of a post's refusal
 unfoldable pub post_refusal_text : PostRefusal → List ℕ
 post_refusal_text refusal = codes "refused " ++ decimal (post_refusal_number refusal) ++ codes " " ++ post_refusal_name refusal ++ codes "\n"
 
--- this line, or that the values are posted
+-- the line of a post's refusal, or `posted`
 abbrev pub post_answered : Option PostRefusal → List ℕ
 post_answered None = codes "posted\n"
 post_answered (Some refusal) = post_refusal_text refusal
 
--- what a post prints; a task over 7 is refused before all
+-- the printed text of a post; a task over 7 is refused before all
 unfoldable pub post_text : SessionState → Posting → List ℕ
 post_text s posting =
     if nat_lt posting.task TASKS then post_answered (post_judged s posting.task posting.settings) else refusal_text NoSuchTask
 
--- a run that stays as it was where there is a refusal
+-- the state with the posted values, or as it was if there is a refusal
 abbrev pub posted_unless : Option PostRefusal → SessionState → Posting → SessionState
 posted_unless None s posting = with_posted s posting.task posting.settings
 posted_unless (Some refusal) s posting = s
 
--- where a post leaves the run
+-- the state after a post
 abbrev pub session_posted : SessionState → Posting → SessionState
 session_posted s posting =
     if nat_lt posting.task TASKS then posted_unless (post_judged s posting.task posting.settings) s posting else s

@@ -29,38 +29,38 @@ write_frame history = write_in (answer_to history SendsWrite)
 abbrev pub write_sent : SessionState → SessionState
 write_sent s = stepped s SendsWrite
 
--- and once its frame went along the line
+-- the state once the frame of the next write went along the line
 abbrev pub write_passed : SessionState → SessionState
 write_passed s = passed (write_sent s) (write_frame s.history ∷ [])
 
--- its frame as it comes back
+-- the frame of the next write as it comes back
 abbrev pub write_back : SessionState → List ℕ
 write_back s = frame_through s.machines (write_frame s.history)
 
--- the run once that was taken in
+-- the state once the frame that came back was taken in
 unfoldable pub block_programmed : SessionState → SessionState
 block_programmed s = stepped (write_passed s) (Arrives (write_back s))
 
--- whether an answer says that a block was written
+-- an answer states that a block was written
 abbrev pub says_done : Answer → Bool
 says_done answer.WriteDone = true
 says_done other = false
 
--- whether what comes back of the next write says so
+-- the answer to the frame that comes back of the next write states that a block was written
 unfoldable pub programming_is_done : SessionState → Bool
 programming_is_done s = says_done (answer_to (write_sent s).history (Arrives (write_back s)))
 
--- one write: it is sent and done, or nothing is sent, or it isn't done
+-- one write: it is sent and done, or nothing is sent, or it is not done
 abbrev pub WritesOnce : SessionState → Bool → SessionState → Type 0
 WritesOnce s true next = (can_write s.history ≡ true) × (programming_is_done s ≡ true) × (next ≡ block_programmed s)
 WritesOnce s false next = ((can_write s.history ≡ false) × (next ≡ s)) ⊎ ((can_write s.history ≡ true) × (programming_is_done s ≡ false) × (next ≡ block_programmed s))
 
--- what programming comes to: where the run is, and how many blocks were written
+-- the result of programming: the state of the run, and the number of blocks that were written
 pub record Programmed : Type 0 where
   pub session_state : SessionState
   pub written : ℕ
 
--- the same with a block more
+-- the result of programming with a block more
 abbrev pub one_block_more : Programmed → Programmed
 one_block_more p = record { session_state = p.session_state; written = p.written + 1 }
 
@@ -69,25 +69,25 @@ abbrev pub after_write : Bool → SessionState → Programmed → Programmed
 after_write true next others = one_block_more others
 after_write false next others = record { session_state = next; written = 0 }
 
--- so many writes at most, one after another, until nothing is owed or one isn't done
+-- at most this many writes, one after another, until nothing is owed or one is not done
 unfoldable pub programmed_within : ℕ → SessionState → Programmed
 programmed_within zero s = record { session_state = s; written = 0 }
 programmed_within (suc most) s =
     if can_write s.history then after_write (programming_is_done s) (block_programmed s) (programmed_within most (block_programmed s))
     else record { session_state = s; written = 0 }
 
--- each write takes a serial, so that there are no more than serials are left
+-- the number of serials that are left; each write takes one, so there are no more writes
 abbrev pub serials_left_count : History → ℕ
 serials_left_count history = SETUP_SERIAL - next_serial history
 
--- all of them: no more writes than serials are left
+-- the result of all writes: no more than serials are left
 unfoldable pub programmed : SessionState → Programmed
 programmed s = programmed_within (serials_left_count s.history) s
 
--- the line `block_programmed N owed M`: the writes that were done, and the blocks that are owed then
+-- the line `written N owed M`: the writes that were done, and the blocks that are owed then
 abbrev pub programmed_text : ℕ → ℕ → List ℕ
 programmed_text done owed = codes "written " ++ decimal done ++ codes " owed " ++ decimal owed ++ codes "\n"
 
--- what programming prints
+-- the printed text of programming
 unfoldable pub program_text : SessionState → List ℕ
 program_text s = let p = programmed s in programmed_text p.written (length (owed_blocks p.session_state.history))

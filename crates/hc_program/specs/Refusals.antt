@@ -1,4 +1,4 @@
--- How faults are printed.
+-- The printed lines of faults.
 use Rattle.std.specs.Prelude.{ℕ, List, ◌++◌, codes}
 use Rattle.std.specs.Fmt.{decimal}
 use Rattle.hc_events.specs.declared.faults.CoreFault.{CoreFault}
@@ -27,15 +27,15 @@ project_fault_name project.NotOneGroup = codes "NotOneGroup"
 unfoldable pub project_fault_words : ProjectFault → List ℕ
 project_fault_words fault = decimal (project_fault_number fault) ++ codes " " ++ project_fault_name fault ++ codes "\n"
 
--- what a text that is no project prints
+-- the line of a text that is no project
 abbrev pub project_fault_text : ProjectFault → List ℕ
 project_fault_text fault = codes "project fault " ++ project_fault_words fault
 
--- what a document prints that declares no group
+-- the line of a document that declares no group
 unfoldable pub declare_fault_text : ProjectFault → List ℕ
 declare_fault_text fault = codes "declare fault " ++ project_fault_words fault
 
--- a fault that names a task or a number is followed by it
+-- the name of a core's fault; the task or the number that it names follows
 abbrev pub core_fault_name : CoreFault → List ℕ
 core_fault_name core.UnknownAlias = codes "UnknownAlias"
 core_fault_name core.AlreadyPresent = codes "AlreadyPresent"
@@ -74,11 +74,11 @@ core_fault_name core.TooManySlaves = codes "TooManySlaves"
 core_fault_name (core.Waits task blocks outside) = codes "Waits " ++ decimal task ++ codes " " ++ decimal blocks ++ codes " " ++ decimal outside
 core_fault_name core.UnderWay = codes "UnderWay"
 
--- what a refused command prints
+-- the line of a refused command
 unfoldable pub refusal_text : CoreFault → List ℕ
 refusal_text fault =
     codes "refused " ++ decimal (core_fault_number fault) ++ codes " " ++ core_fault_name fault ++ codes "\n"
 
--- what a line that is no command prints
+-- the printed line of an input line that is no command
 unfoldable pub bad_command_text : ℕ → List ℕ
 bad_command_text number = codes "line " ++ decimal number ++ codes ": bad command\n"

@@ -30,19 +30,19 @@ block_text block =
     ++ spaced_bytes block.bytes
     ++ codes "\n"
 
--- the line of a slave's block with a number; those of all of them, in the order of their numbers: two for each area
+-- the line of a slave's block with a number; nothing if there is no such block
 abbrev pub numbered_block_text : List Member → ℕ → ℕ → List ℕ
 numbered_block_text line station number = option_map_or block_text (block_at line station number) []
 
--- the lines of the blocks 0 to 15, as far as there are, of the slave with the station address, in its order; nothing where the line has no such slave
+-- the lines of the blocks of the slave with the station address, in the order of their numbers, two for each area; nothing if the line has no such slave
 unfoldable pub blocks_text : List Member → ℕ → List ℕ
 blocks_text line station = flat_map (numbered_block_text line station) (range_with_len 0 (2 * MOST_AREAS))
 
--- the lines of the blocks of the slave with the station address, where it has a position in the line; else the refusal of the fault given instead
+-- the lines of the blocks of the slave with the station address, if it has a position in the line; else the refusal of the fault given instead
 abbrev pub blocks_or_refusal : List Member → ℕ → Result ℕ EditFault → List ℕ
 blocks_or_refusal line station (Ok position) = blocks_text line station
 blocks_or_refusal line station (Err fault) = refusal_text (edit_refusal fault)
 
--- the blocks of the slave of the line with the station address, or why there is none
+-- the lines of the blocks of the slave of the line with the station address, or the refusal if there is none
 unfoldable pub regs_text : State → ℕ → List ℕ
 regs_text state station = blocks_or_refusal (line state) station (position_of state station)

@@ -1,4 +1,4 @@
--- What clauses see of a session.
+-- A session, as clauses see it.
 use Rattle.std.specs.Prelude.{◌≡◌, [], map, replicate}
 use Rattle.hc_records.specs.declared.limits.TheConstants.{TASKS}
 use Rattle.hc_events.specs.Accepted.{IsReachable}
@@ -10,7 +10,7 @@ use Rattle.hc_conductor.specs.Mastering.{Mastering, master_history, master_shown
 use Rattle.hc_program.specs.declared.session.Session.TheInside.{Inside}
 use Rattle.hc_program.specs.Standings.{SessionState}
 
--- where its run is
+-- the state of a session's run
 abbrev pub session_state_in : Inside → SessionState
 session_state_in s = record { history = master_history s.master; machines = s.line; posts = waiting s.master; seen = s.seen.value.history }
 
@@ -27,6 +27,6 @@ pub record MasterIsAtOpening (m : Mastering) : Type 0 where
   pub shown : IsShown (master_history m) (master_shown m)
   pub none : waiting m ≡ replicate TASKS []
 
--- what is true of every session: its tasks are shown what the record says that was published last
+-- the invariant of every session: its tasks are shown what the record says that was published last
 abbrev pub IsSoundSession : Inside → Type 0
 IsSoundSession s = IsShown s.seen.value.history (master_shown s.master)

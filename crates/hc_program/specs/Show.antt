@@ -14,7 +14,7 @@ unfoldable pub frame_or_none : History → Option Frame → List ℕ
 frame_or_none history None = codes "none\n"
 frame_or_none history (Some frame) = shown_line frame.serial (sent_text history frame)
 
--- it is shown whether or not blocks are owed
+-- the printed text of `show`, whether or not blocks are owed; a task over 7 is refused
 unfoldable pub show_text : History → ℕ → ℕ → List ℕ
 show_text history task number =
     if nat_lt task TASKS then frame_or_none history (preview history task number) else refusal_text NoSuchTask

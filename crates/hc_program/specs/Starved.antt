@@ -1,4 +1,4 @@
--- What a run may leave where memory was refused, or a seat or a view.
+-- Outcomes of a run in which an allocation failed, or a seat or a view was refused.
 use Rattle.std.specs.Prelude.{◌≡◌, ◌≤◌, ◌⊎◌, ℕ, true, List, [], ◌∷◌, length, Option, Some, None, Ok, IsOk}
 use Rattle.hc_records.specs.declared.faults.ProjectFault.TheVariants as project
 use Rattle.hc_events.specs.Entries.{History}
@@ -23,23 +23,23 @@ abbrev pub spelt_command : List (List ℕ) → Option Command
 spelt_command [] = None
 spelt_command (name ∷ arguments) = command_in name arguments
 
--- a line of these words that was refused a growth, or a view: nothing was carried out, or its command was stopped
+-- a line of these words with a failed allocation or a refused view: nothing was carried out, or its command was stopped
 abbrev pub StopsWords : SessionState → List (List ℕ) → Stop → SessionState → Type 0
 StopsWords s words why next = Unchanged s why next ⊎ ((command : Command) × (spelt_command words ≡ Some command) × StopsIn s command why next)
 
--- the same of a turn; a declaration was not carried out
+-- a turn that was stopped; a declaration was not carried out
 abbrev pub StopsTurn : SessionState → Turn → Stop → SessionState → Type 0
 StopsTurn s (Says number text) why next = StopsWords s (words_of text) why next
 StopsTurn s (Declares number document) why next = Unchanged s why next
 
--- it prints why, and the run goes on
+-- the reply to a turn that was stopped: it prints the cause, and the run goes on
 pub record IsStopped (s : SessionState) (turn : Turn) (reply : Reply) : Type 0 where
   pub why : Stop
   pub stopped : StopsTurn s turn why reply.session_state
   pub text : reply.text ≡ stop_text why
   pub on : reply.goes_on ≡ true
 
--- the reply to a turn in want: the turn was stopped, and what it left is published or not; or its own reply is not published
+-- the reply to a turn with a failed allocation or a refused view: the turn was stopped, and what it left is published or not; or its own reply is not published
 abbrev pub Stops : SessionState → Turn → Reply → Type 0
 Stops s turn reply =
     (reply ≡ bare_reply s turn)
@@ -53,22 +53,22 @@ StopsLine s turn before after next end = (reply : Reply) × Stops s turn reply �
 abbrev pub GivesFirst : Reply → (Outcome → Type 0) → Outcome → Type 0
 GivesFirst reply Rest outcome = (rest : Outcome) × Rest rest × (outcome ≡ outcome_after_reply reply rest)
 
--- a run of turns; each gives its reply, or one for refused memory
+-- a run of turns; each gives its reply, or one for a failed allocation or a refused view
 unfoldable pub RunsWithRefusedGrowth : SessionState → List Turn → Outcome → Type 0
 RunsWithRefusedGrowth s [] outcome = outcome ≡ record { text = []; status = 0 }
 RunsWithRefusedGrowth s (turn ∷ turns) outcome =
     GivesFirst (reply_to s turn) (RunsWithRefusedGrowth (reply_to s turn).session_state turns) outcome
     ⊎ ((reply : Reply) × Stops s turn reply × GivesFirst reply (RunsWithRefusedGrowth reply.session_state turns) outcome)
 
--- such a run, one at least of whose turns gives a reply in want: a later one, which the run reaches, or the first
+-- a run of turns, at least one of which gives a reply for a failed allocation or a refused view: a later one, which the run reaches, or the first
 unfoldable pub StarvedRun : SessionState → List Turn → Outcome → Type 0
 StarvedRun s [] outcome = ⊥
 StarvedRun s (turn ∷ turns) outcome =
     ((reply_to s turn).goes_on ≡ true) × GivesFirst (reply_to s turn) (StarvedRun (reply_to s turn).session_state turns) outcome
     ⊎ ((reply : Reply) × Stops s turn reply × GivesFirst reply (RunsWithRefusedGrowth reply.session_state turns) outcome)
 
--- memory was refused while the project was read or its fault reported, or while it was opened or its fault reported; or a seat was refused of a project that can be opened; or memory or a view was refused
--- for a turn
+-- an allocation failed while the project was read or its fault reported, or while it was opened or its fault reported; or a seat was refused of a project that
+-- can be opened; or an allocation failed or a view was refused for a turn
 abbrev pub StarvedSections : List ℕ → List Line → Outcome → Type 0
 StarvedSections text lines outcome =
     (outcome ≡ unopened (Project project.Memory))
@@ -76,7 +76,7 @@ StarvedSections text lines outcome =
     ⊎ IsOk (opening_of text) × (outcome ≡ unopened NoSeat)
     ⊎ ((history : History) × (opening_of text ≡ Ok history) × StarvedRun (opened_session_state history) (turns_of lines) outcome)
 
--- memory was refused while the input was read, which prints nothing, or after that
+-- an allocation failed while the input was read, which prints nothing, or after that
 abbrev pub StarvedOutcome : List ℕ → Outcome → Type 0
 StarvedOutcome input outcome =
     (outcome ≡ unread)

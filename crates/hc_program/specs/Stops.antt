@@ -1,4 +1,4 @@
--- What a command leaves that is stopped: in those that make several calls, what earlier calls did is.
+-- The state after a command that was stopped. A command of several calls leaves what its earlier calls did.
 use Rattle.std.specs.Prelude.{◌≡◌, ◌⊎◌, ℕ, zero, suc, true, List, take, codes}
 use Rattle.hc_events.specs.declared.faults.CoreFault.TheVariants as core
 use Rattle.hc_segment.specs.declared.faults.ChainFault.{ChainFault}
@@ -19,38 +19,38 @@ use Rattle.hc_program.specs.Standings.{SessionState}
 unfoldable pub chain_fault_text : ChainFault → List ℕ
 chain_fault_text chain.Memory = codes "chain fault 1 Memory\n"
 
--- what is printed where a growth was refused
+-- the printed line of a failed allocation
 abbrev pub refused_growth_text : RefusedGrowth → List ℕ
 refused_growth_text refused_growth.Memory = refusal_text core.Memory
 refused_growth_text (refused_growth.Chain fault) = chain_fault_text fault
 
--- where a seat was given no view
+-- the printed line of a seat that was given no view
 unfoldable pub no_entry_text : List ℕ
 no_entry_text = codes "refused 7 NoEntry\n"
 
--- what is printed in place of the command's text
+-- the text that is printed in place of the command's text
 abbrev pub stop_text : Stop → List ℕ
 stop_text (stop.RefusedGrowth w) = refused_growth_text w
 stop_text stop.NoEntry = no_entry_text
 
--- a command of one call was not carried out
+-- the state after a command of one call that was not carried out
 abbrev pub Unchanged : SessionState → Stop → SessionState → Type 0
 Unchanged s why next = (why ≡ stop.RefusedGrowth refused_growth.Memory) × (next ≡ s)
 
--- nor was one for which a seat was asked for a view
+-- the state after a command for which a seat was asked for a view, and which was not carried out
 abbrev pub Unviewed : SessionState → Stop → SessionState → Type 0
 Unviewed s why next = ((why ≡ stop.RefusedGrowth refused_growth.Memory) ⊎ (why ≡ stop.NoEntry)) × (next ≡ s)
 
--- so many writes, each done
+-- this many writes, each done
 abbrev pub WritesAreDone : ℕ → SessionState → SessionState → Type 0
 WritesAreDone zero s t = t ≡ s
 WritesAreDone (suc n) s t = (m : SessionState) × WritesAreDone n s m × (can_write m.history ≡ true) × (programming_is_done m ≡ true) × (t ≡ block_programmed m)
 
--- a growth was refused, and so the command was stopped
+-- an allocation failed, and so the command was stopped
 abbrev pub StoppedForMemory : Stop → (RefusedGrowth → Type 0) → Type 0
 StoppedForMemory why Stopped = (w : RefusedGrowth) × (why ≡ stop.RefusedGrowth w) × Stopped w
 
--- the next write was sent, and its frame wasn't made or didn't go along the line; or what came back wasn't taken in
+-- the next write was sent, and its frame was not made or did not go along the line; or the frame that came back was not taken in
 abbrev pub StopsInWrite : SessionState → RefusedGrowth → SessionState → Type 0
 StopsInWrite s w next = (next ≡ write_sent s) ⊎ ((w ≡ refused_growth.Memory) × (next ≡ write_passed s))
 
@@ -58,18 +58,18 @@ StopsInWrite s w next = (next ≡ write_sent s) ⊎ ((w ≡ refused_growth.Memor
 abbrev pub StopsProgram : SessionState → RefusedGrowth → SessionState → Type 0
 StopsProgram s w next = ((w ≡ refused_growth.Memory) × (next ≡ s)) ⊎ ((n : ℕ) × (m : SessionState) × WritesAreDone n s m × StopsInWrite m w next)
 
--- tasks weren't sent; or they were, and their frames didn't go along the line; or these did, and some of what came back was taken in
+-- tasks were not sent; or they were, and their frames did not go along the line; or the frames did, and some of those that came back were taken in
 abbrev pub StopsInCycle : SessionState → List ℕ → RefusedGrowth → SessionState → Type 0
 StopsInCycle s tasks w next =
     ((w ≡ refused_growth.Memory) × (next ≡ s))
     ⊎ ((w ≡ refused_growth.Chain chain.Memory) × (next ≡ cycle_sent s tasks))
     ⊎ ((w ≡ refused_growth.Memory) × ((n : ℕ) × (next ≡ cycle_arrived (cycle_passed s tasks) (take n (cycle_back s tasks)))))
 
--- no alias was read; or all were, and they weren't gathered or weren't printed
+-- no alias was read; or all were, and they were not gathered or were not printed
 abbrev pub StopsScan : SessionState → RefusedGrowth → SessionState → Type 0
 StopsScan s w next = ((w ≡ refused_growth.Chain chain.Memory) × (next ≡ s)) ⊎ (next ≡ scanned s)
 
--- where a command leaves the run that was stopped so
+-- the state after a command that was stopped
 abbrev pub StopsIn : SessionState → Command → Stop → SessionState → Type 0
 StopsIn s command.Program why next = StoppedForMemory why (λ w. StopsProgram s w next)
 StopsIn s (command.Cycle tasks) why next = StoppedForMemory why (λ w. StopsInCycle s tasks w next)

@@ -30,7 +30,7 @@ use std::sync::Wait;
 use std::thread::Threads;
 
 /// Carries out a command and appends its reply. Nothing is published yet. Returns a `Stop` if an allocation fails or a seat
-/// gets no view: a command of one call has then done nothing, and any other command what it had done before (`StopsIn`); `out`
+/// gets no view. A command of one call has then done nothing, and any other command what it had done before (`StopsIn`). `out`
 /// may have a prefix of the reply.
 pub fn obey<R: Threads + Wait + Sync>(
     rt: &R,

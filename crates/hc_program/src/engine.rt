@@ -1,5 +1,5 @@
-//! The run of `hotline`: it reads all input, opens the project, answers each turn, which is a command line or a declaration
-//! with the lines of its document, and writes each reply before it answers the next turn.
+//! The run of `hotline`. It reads all input, opens the project, and answers each turn: a command line, or a declaration with
+//! the lines of its document. It writes each reply before it answers the next turn.
 ghost use Rattle.std.specs.Prelude.{◌≡◌, ◌≢◌, ◌≤◌, ◌+◌, false, true, length, IfSome};
 ghost use Rattle.std.specs.Option.{option_copied};
 ghost use Rattle.hc_text.specs.Cutting.{left_in};
@@ -52,7 +52,7 @@ pub struct RunEnd {
     /// The exit status: 0 for a run that reached its last line, 2 after a line that is no command, 3 if the project is not
     /// opened, 4 if the input is not read or a write fails.
     pub status: u8,
-    /// Whether an allocation failed on the way, or a seat or a view was refused, which never occurs in practice.
+    /// True if an allocation failed on the way, or a seat or a view was refused, which never occurs in practice.
     pub starved: bool,
     /// The reason for status 4; `None` with any other status.
     pub broken: Option<Broken>,
@@ -63,7 +63,7 @@ pub struct RunEnd {
 struct TurnEnd {
     /// The exit status, if the run ends here.
     end: Option<u8>,
-    /// Whether the turn was stopped, or its publishing refused.
+    /// True if the turn was stopped, or its publishing refused.
     starved: bool,
 }
 

@@ -21,7 +21,7 @@ use std::thread::Threads;
 pub struct Reply {
     /// The printed text.
     pub text: String,
-    /// Whether the run continues. It ends at a line that is no command.
+    /// True if the run continues. It ends at a line that is no command.
     pub goes_on: bool,
 }
 

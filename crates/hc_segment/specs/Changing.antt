@@ -1,8 +1,8 @@
--- What contracts see of a prepared edit of a line.
+-- A prepared edit of a line, as contracts see it.
 use Rattle.std.specs.Prelude.{ℕ}
 use Rattle.hc_segment.specs.Machines.{Replacement}
 
--- for how many machines it was prepared, and what it replaces
+-- the number of machines for which it was prepared, and its replacement
 pub record Prepared : Type 0 where
   pub count : ℕ
   pub replacement : Replacement

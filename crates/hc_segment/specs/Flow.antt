@@ -1,4 +1,4 @@
--- What a thread, or a row of threads, does between two rings of frames.
+-- A thread, or a row of threads, between two rings of frames.
 use Rattle.std.specs.Prelude.{◌≡◌, ℕ, List, [], length}
 use Rattle.hc_lend.specs.Work.{HavePassed}
 use Rattle.hc_rings.specs.declared.frames.FrameReceiver.{FrameReceiver}
@@ -6,7 +6,7 @@ use Rattle.hc_rings.specs.declared.frames.FrameSender.{FrameSender}
 use Rattle.hc_rings.specs.Frames.{SameFrameReceiver, SameFrameSender, frames_sent, frames_taken}
 use Rattle.hc_segment.specs.Line.{line_after, line_frames}
 
--- so many frames were taken, and what was sent is what the segments made of them
+-- `count` frames were taken, and the sent ones are what the segments made of them
 pub record Flows (count : ℕ) (line line' : List (List (List ℕ))) (from from' : FrameReceiver) (to to' : FrameSender) : Type 0 where
   pub counted : length (frames_taken from') ≡ count
   pub frames : frames_sent to' ≡ line_frames line (frames_taken from')

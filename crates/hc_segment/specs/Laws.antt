@@ -1,4 +1,4 @@
--- What follows from the definitions: how frames go through machines in a row, and through segments.
+-- Laws of frames through machines in a row, and through segments.
 use Rattle.std.specs.Prelude.{◌≡◌, All, ℕ, List, ◌++◌, length, map}
 use Rattle.hc_frames.specs.FrameText.{WireDatagram, Datagram, frame_text, sent_on_wire}
 use Rattle.hc_frames.specs.Laws.{CanBeCarried}

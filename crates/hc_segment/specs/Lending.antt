@@ -1,4 +1,4 @@
--- What a segment ends as, once the loan of its machines is over.
+-- The value of a segment, once the loan of its machines is over.
 use Rattle.std.specs.Prelude.{ℕ, List, ◌++◌, length, take, drop}
 use Rattle.std.specs.Borrow.{Lends, MutBor, Fml, Array}
 use Rattle.hc_machine.specs.contracts.machine.SlaveMachine as machine

@@ -1,4 +1,4 @@
--- What follows from the definitions.
+-- The law that a line has a machine for each of its slaves.
 use Rattle.std.specs.Prelude.{◌≡◌, ℕ, List, None, length}
 use Rattle.hc_records.specs.declared.records.Declared.{Declared}
 use Rattle.hc_records.specs.declared.edit.Edit.{Edit}
@@ -8,11 +8,11 @@ use Rattle.hc_records.specs.Project.{lowest_fault}
 use Rattle.hc_segment.specs.Line.{machines_after}
 use Rattle.hc_segment.specs.Machines.{machines_after_edit, opened_machines, poked}
 
--- so many machines as the line of these groups has slaves
+-- as many machines as the line of these groups has slaves
 abbrev pub HasEach : List Declared → List (List ℕ) → Type 0
 HasEach groups machines = length machines ≡ length (line_from 1 groups)
 
--- at its opening a line has a machine for each slave, and where it had one before, it has one after an edit, after frames, and after bytes are written to a memory
+-- at its opening a line has a machine for each slave, and if it had one before, it has one after an edit, after frames, and after bytes are written to a memory
 pub record LinesHaveEach : Type 0 where
   pub opened : (groups : List Declared) → HasEach groups (opened_machines groups)
   pub edited : (groups : List Declared) (edit : Edit) (machines : List (List ℕ)) → lowest_fault (groups_of groups) ≡ None → HasEach groups machines

@@ -4,11 +4,11 @@ use Rattle.hc_segment.specs.declared.changing.LineEdit.TheInside.{Inside}
 use Rattle.hc_segment.specs.Cutting.{fourth}
 use Rattle.hc_segment.specs.Changing.{Prepared}
 
--- for how many machines it was prepared, and what it replaces
+-- the number of machines for which it was prepared, and its replacement
 abbrev pub prepared_in : Inside → Prepared
 prepared_in e = record { count = e.count; replacement = record { position = e.position; gone = e.gone; coming = e.coming.items } }
 
--- how many machines there are after it
+-- the number of machines after it
 abbrev pub count_after : Inside → ℕ
 count_after e = e.count + vec_len e.coming - (min (e.position + e.gone) e.count - min e.position e.count)
 

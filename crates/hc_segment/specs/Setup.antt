@@ -11,7 +11,7 @@ use Rattle.hc_segment.specs.Line.{frames_through, machines_after}
 unfoldable pub alias_frame : ℕ → List ℕ
 alias_frame position = frame_text SETUP_SERIAL (alias_read (position % 65536) ∷ [])
 
--- the frames that read the aliases of so many slaves
+-- the frames that read the aliases of `count` slaves
 abbrev pub alias_frames : ℕ → List (List ℕ)
 alias_frames count = map alias_frame (range_with_len 0 count)
 
@@ -28,7 +28,7 @@ station_frames position (member ∷ members) = station_frame position member.sla
 abbrev pub data_in : List ℕ → ℕ
 data_in frame = word_at frame FIRST_DATA
 
--- the working counter after them
+-- the working counter after the data of such a frame
 abbrev pub counter_in : List ℕ → ℕ
 counter_in frame = word_at frame (FIRST_DATA + 2)
 
@@ -44,7 +44,7 @@ machines_scanned machines = machines_after machines (alias_frames (length machin
 abbrev pub is_taken_once : List ℕ → Bool
 is_taken_once frame = counter_in frame == 1
 
--- how many station writes to the members of a line come back from machines with the working counter 1
+-- the number of station writes to the members of a line that come back from machines with the working counter 1
 unfoldable pub named_count : List (List ℕ) → List Member → ℕ
 named_count machines members = length (filter is_taken_once (frames_through machines (station_frames 0 members)))
 

@@ -25,7 +25,7 @@ fn send_all<R: Wait>(rt: &R, to: &mut FrameSender, frames: Vec<FrameBox>)
     }
 }
 
-/// Takes so many frames, in order.
+/// Takes `count` frames, in order.
 fn take_all<R: Wait>(rt: &R, from: &mut FrameReceiver, count: usize, answer: &mut Vec<FrameBox>)
     requires fresh { frames_taken from.old ≡ [] }
     requires empty { answer.old.items ≡ [] }
@@ -39,14 +39,18 @@ fn take_all<R: Wait>(rt: &R, from: &mut FrameReceiver, count: usize, answer: &mu
     }
 }
 
-/// Passes the frames through all segments, each in a thread of its own; the first in this one. With no segments the frames come
+/// Passes the frames through all segments, each in a thread of its own, the first in this one. Without segments the frames come
 /// back as they are. Each thread calls the gate once, with its segment's number, counted from 0, before it waits for its first
-/// frame. It returns once all frames came out, in their order. `ChainFault` where a growth was refused; the machines are then as
-/// they were, and the frames are dropped. Rings and the room for the answer are made before a thread is started.
+/// frame. Returns once all frames came out, in their order. Rings and the room for the answer are allocated before a thread is
+/// started.
 ///
 /// With more than 4,294,967,295 frames it would wait for ever, since its rings have room for no more than that.
 ///
-/// A segment is served in this thread where the system makes none for it. No clause says that the threads run at once.
+/// A segment is served in this thread if the system makes none for it. No clause states that the threads run at once.
+///
+/// # Errors
+///
+/// `ChainFault` if an allocation failed: the machines are as they were, and the frames are dropped.
 pub fn chain<R: Threads + Wait + Sync, G: Gate + Sync>(
     rt: &R,
     alloc: Global,

@@ -1,4 +1,4 @@
-//! Machines come and go with their group.
+//! Prepared edits of a simulated line: machines come and go with their group.
 ghost use Rattle.std.specs.Prelude.{◌≡◌, ◌+◌, ◌^◌, ◌<◌, ◌≤◌, [], ◌++◌, IfOk, IfSome, find, length, option_and_then, option_map, reverse, sum_by, vec_len, vec_capacity};
 ghost use Rattle.std.specs.Option.{option_copied};
 ghost use Rattle.hc_records.specs.Line.{IsCounted, groups_of, line_from, present_slaves};
@@ -16,8 +16,8 @@ use hc_records::records::Declared;
 use std::alloc::{AllocError, Global};
 use std::marker::Model;
 
-/// What an edit makes of a line's machines, and all room for it. Contracts see what it replaces, and for how many machines
-/// it was prepared.
+/// A prepared edit of a line's machines, with all memory for it. Contracts see the replacement, and the number of machines for
+/// which it was prepared.
 #[derive(Drop)]
 pub struct LineEdit {
     count: usize,
@@ -48,7 +48,7 @@ fn group_with(groups: &[Declared], alias: u16) -> Option<&Declared>
     groups.iter().find(|declared| declared.group.alias == alias)
 }
 
-/// How many slaves of a declared group are in the line.
+/// The number of slaves of a declared group that are in the line.
 fn present_count(declared: &Declared) -> usize
     ensures { result ≡ length (present_slaves declared.now) }
 {
@@ -59,8 +59,8 @@ fn present_count(declared: &Declared) -> usize
     }
 }
 
-/// How many slaves of the line are before the group with an alias. There are 512 groups at most, so deep is this
-/// recursion.
+/// The number of slaves of the line before the group with an alias. The recursion is as deep as the number of groups, at most
+/// 512.
 fn slaves_before(groups: &[Declared], alias: u16) -> usize
     requires { IsCounted groups.now }
     ensures { result ≡ slaves_before alias groups.now }
@@ -90,7 +90,8 @@ fn gathered(segments: &mut Vec<Segment>, room: Vec<SlaveMachine>) -> Vec<SlaveMa
     all
 }
 
-/// After so many machines, which stay, so many go and others come in their place.
+/// The machines after a replacement: after the first `position` machines, which stay, `gone` machines go, and others come in
+/// their place.
 fn turned(
     machines: Vec<SlaveMachine>,
     position: usize,
@@ -114,7 +115,7 @@ fn turned(
 }
 
 impl LineEdit {
-    /// The edit of a line of so many machines, with the room for it.
+    /// The edit of a line of `count` machines, with the memory for it.
     fn new(
         alloc: Global,
         count: usize,
@@ -125,7 +126,7 @@ impl LineEdit {
         requires { position + gone < 2 ^ 32 }
         ensures { IfOk result (λ ready. ready ≡ record { count = count; replacement = record { position = position; gone = gone; coming = coming.items } }) }
     {
-        // no memory has so many machines that their number doesn't fit
+        // no memory has so many machines that their number does not fit
         let Some(most) = count.checked_add(coming.len()) else {
             return Err(AllocError);
         };
@@ -144,7 +145,7 @@ impl LineEdit {
 }
 
 impl SimulatedLine {
-    /// The group with an alias comes, where it isn't there.
+    /// The edit by which the group with an alias comes. None if the group is in the line, or not declared.
     fn prepare_coming(
         &self,
         alloc: Global,
@@ -168,7 +169,7 @@ impl SimulatedLine {
         }
     }
 
-    /// The group with an alias goes, where it is there.
+    /// The edit by which the group with an alias goes. None if the group is not in the line, or not declared.
     fn prepare_going(
         &self,
         alloc: Global,
@@ -192,8 +193,8 @@ impl SimulatedLine {
         }
     }
 
-    /// What an edit, which these groups accept, would make of the machines; none where it touches none. All memory for it
-    /// is taken here, and nothing changes. `AllocError` where a growth was refused.
+    /// Prepares what an edit, which these groups accept, changes of the machines. None if it touches no machine. All memory for
+    /// it is allocated here, and nothing changes. `AllocError` if an allocation failed.
     pub fn prepare(
         &self,
         alloc: Global,
@@ -211,9 +212,9 @@ impl SimulatedLine {
         }
     }
 
-    /// Carries out what was prepared for a line of as many machines: those that go are dropped, fresh ones come in their
-    /// place, and the others keep their memory. The machines are then cut into at most four segments again, each of a
-    /// fourth of them, rounded up. It takes no memory.
+    /// Carries out an edit that was prepared for a line of as many machines. Machines that go are dropped, fresh ones come in
+    /// their place, and the others keep their memory. The machines are then cut into at most four segments again, each of at
+    /// most a fourth of them, rounded up. It does not allocate.
     pub fn carry_out(&mut self, ready: LineEdit)
         requires { ready.count ≡ length self.old }
         ensures { self.new ≡ machines_replaced ready.replacement self.old }

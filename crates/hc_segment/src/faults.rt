@@ -1,13 +1,13 @@
-//! Why a chain is refused.
+//! Faults of a chain.
 ghost use Rattle.std.specs.Prelude.{◌≡◌};
 
 use std::alloc::AllocError;
 use thiserror::Error;
 
-/// Why a chain is refused. A fault's number is part of the program's printed words and never changes.
+/// The fault of a chain. Its number is part of the program's printed words and never changes.
 #[derive(Clone, Copy, Debug, PartialEq, Eq, Error)]
 pub enum ChainFault {
-    /// A growth was refused.
+    /// An allocation failed.
     #[error("out of memory")]
     Memory,
 }

@@ -21,7 +21,7 @@ fn process_box(segment: &mut Segment, frame: &mut FrameBox)
     segment.process(frame.bytes_mut());
 }
 
-/// Passes so many frames through a segment, one after another, once the thread with this number has passed the gate.
+/// Passes `count` frames through a segment, one after another, once the thread with this number has passed the gate.
 fn serve<R: Wait, G: Gate>(
     rt: &R,
     _number: usize,
@@ -45,7 +45,7 @@ fn serve<R: Wait, G: Gate>(
     }
 }
 
-/// What one thread does: it passes the gate, and then the frames through its segment.
+/// The work of one thread: it passes the gate, and then passes frames through its segment.
 fn work<R: Wait, G: Gate>(
     rt: &R,
     number: usize,
@@ -66,8 +66,8 @@ fn work<R: Wait, G: Gate>(
     serve(rt, number, segment, from, to, count, gate);
 }
 
-/// One thread for each segment, numbered from this number on. What the last one sends is what the segments make of what
-/// the first one takes.
+/// Runs one thread for each segment, numbered from `number` on. The last one sends the frames that the segments make of those
+/// that the first one takes.
 pub(crate) fn flow<R: Threads + Wait + Sync, G: Gate + Sync>(
     rt: &R,
     number: usize,
@@ -95,7 +95,7 @@ pub(crate) fn flow<R: Threads + Wait + Sync, G: Gate + Sync>(
         mut receiver,
     } = seam;
     let (out, into) = (&mut sender, &mut receiver);
-    // where no thread can be made the second closure runs first: what leaves this segment then waits in the seam
+    // if no thread can be made, the second closure runs first: the frames that leave this segment then wait in the seam
     join_mut(
         rt,
         &mut ||

@@ -6,7 +6,7 @@ use hc_machine::SlaveMachine;
 use hc_records::records::{Declared, Group};
 use std::alloc::{AllocError, Global};
 
-/// A machine with an alias that no frame has met yet. `AllocError` if its memory is refused.
+/// A machine with an alias that no frame has met yet. `AllocError` if the allocation of its memory failed.
 #[tactic(auto, unfolding(crate::specs::Machines::fresh))]
 fn fresh(alloc: Global, alias: u16) -> Result<SlaveMachine, AllocError>
     ensures { IfOk result (λ machine. machine ≡ fresh alias) }

@@ -1,4 +1,5 @@
-//! What follows from the definitions of `specs/`: each function here does nothing, and its contract is a law. Nobody calls it.
+//! Laws that follow from the definitions of `specs/`: each function here does nothing, and its contract is a law. Nobody calls
+//! it.
 ghost use Rattle.hc_segment.specs.Laws.{LinesAreSegments, RowsAreJoined, SentTextsComeBack};
 
 /// Frames after two rows of machines are those after the second row of those after the first, and each machine is as its
@@ -7,7 +8,7 @@ pub fn rows_are_joined()
     ensures { RowsAreJoined }
 {}
 
-/// What leaves a line of segments, and the machines after it, are those of one segment of all machines.
+/// The frames that leave a line of segments, and the machines after them, are those of one segment of all machines.
 pub fn lines_are_segments()
     ensures { LinesAreSegments }
 {}

@@ -1,4 +1,4 @@
-//! The line, and what goes through it.
+//! The simulated line, and frames through it.
 ghost use Rattle.std.specs.Prelude.{◌≡◌, ◌≤◌, ◌+◌, ◌<◌, IfOk, IfSome, OnErr, OnOk, length, map, slice_get};
 ghost use Rattle.std.specs.Option.{option_copied};
 ghost use Rattle.hc_machine.specs.declared.limits.TheConstants.{MEMORY_BYTES};
@@ -33,7 +33,7 @@ impl Model for SimulatedLine {
     ghost invariant = { IsSegmentLine };
 }
 
-/// Holds no segment back.
+/// A gate that holds no segment back.
 struct Open;
 
 impl Gate for Open {
@@ -62,7 +62,7 @@ fn write_one(segment: &mut Segment, number: usize, at: usize, bytes: &[u8])
     segment.machines_mut()[number].write_memory(at, bytes);
 }
 
-/// Writes to the memory of a machine of these segments; there are four at most, so deep is this recursion.
+/// Writes to the memory of a machine of these segments. The recursion is as deep as their number, at most four.
 fn write_in(segments: &mut [Segment], number: usize, at: usize, bytes: &[u8])
     requires { at + length bytes.now ≤ MEMORY_BYTES }
     ensures memory { all_machines segments.new ≡ poked number at bytes.now (all_machines segments.old) }
@@ -80,8 +80,8 @@ fn write_in(segments: &mut [Segment], number: usize, at: usize, bytes: &[u8])
 }
 
 impl SimulatedLine {
-    /// The line at the opening of these groups: fresh machines for the slaves of those that are present. `AllocError`
-    /// where a growth was refused.
+    /// The line at the opening of these groups: fresh machines for the slaves of those that are present. `AllocError` if an
+    /// allocation failed.
     pub fn opened(alloc: Global, groups: &[Declared]) -> Result<SimulatedLine, AllocError>
         ensures { IfOk result (λ line. line ≡ opened_machines groups.now) }
     {
@@ -94,15 +94,14 @@ impl SimulatedLine {
         })
     }
 
-    /// How many machines there are.
+    /// The number of machines.
     pub fn len(&self) -> usize
         ensures { result ≡ length self.now }
     {
         self.count
     }
 
-    /// The memory of the machine at a position of the line, counted from 0: 12,288 bytes; none where there is no such
-    /// machine.
+    /// The memory of the machine at a position of the line, counted from 0: 12,288 bytes. None if there is no such machine.
     pub fn memory(&self, position: usize) -> Option<&[u8]>
         ensures bytes { option_copied result ≡ slice_get self.now position }
         ensures size { IfSome result (λ memory. length memory.now ≡ MEMORY_BYTES) }
@@ -110,9 +109,8 @@ impl SimulatedLine {
         memory_in(&self.segments, position)
     }
 
-    /// Puts bytes in the place of those of the memory of the machine at a position, from byte `at` on, 0 to 12,288 less
-    /// their number: any of them, the alias and the registers too. Nothing where there is no such machine. It takes no
-    /// memory.
+    /// Writes bytes to the memory of the machine at a position, from byte `at` on, 0 to 12,288 less their number. Any byte can
+    /// be written, the alias and the registers too. Nothing is written if there is no such machine. It does not allocate.
     pub fn write_memory(&mut self, position: usize, at: usize, bytes: &[u8])
         requires { at + length bytes.now ≤ MEMORY_BYTES }
         ensures { self.new ≡ poked position at bytes.now self.old }
@@ -120,8 +118,8 @@ impl SimulatedLine {
         write_in(&mut self.segments, position, at, bytes);
     }
 
-    /// Passes frames through the machines in order, each segment in a thread of its own, and answers them as they come
-    /// back, in their order. `ChainFault` where a growth was refused: no machine has then met a frame.
+    /// Passes frames through the machines in order, each segment in a thread of its own, and returns them as they come back, in
+    /// their order. `ChainFault` if an allocation failed: no machine has then met a frame.
     pub fn pass<R: Threads + Wait + Sync>(
         &mut self,
         rt: &R,

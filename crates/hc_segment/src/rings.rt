@@ -47,7 +47,7 @@ pub(crate) struct Seam {
 }
 
 impl Seam {
-    /// With room for so many frames.
+    /// A ring with room for `room` frames.
     pub(crate) fn new(alloc: Global, room: u32) -> Result<Seam, AllocError> {
         let (sender, receiver) = frame_ring(alloc, room)?;
         Ok(Seam { sender, receiver })

@@ -1,4 +1,4 @@
-//! Machines are cut into segments; the room for them is taken before.
+//! Segments into which machines are cut. The room for them is allocated before.
 ghost use Rattle.std.specs.Prelude.{◌≡◌, ◌≤◌, ◌+◌, ◌*◌, ◌/◌, [], ◌++◌, All, IfOk, drop, length, map, take, vec_len, vec_capacity};
 ghost use Rattle.std.specs.Vec.Iter.{into_iter_items};
 ghost use Rattle.hc_segment.specs.Line.{all_machines};
@@ -10,7 +10,7 @@ use std::alloc::{AllocError, Global};
 use std::marker::Model;
 use std::vec::IntoIter;
 
-/// The segments of a line at most.
+/// The most segments of a line.
 const MOST_SEGMENTS: usize = 4;
 
 /// Room for the machines of a segment. Contracts see it as the number of machines that there is room for.
@@ -30,7 +30,7 @@ impl Model for SegmentMachines {
 }
 
 impl SegmentMachines {
-    /// Room for so many.
+    /// Room for `size` machines.
     fn new(alloc: Global, size: usize) -> Result<SegmentMachines, AllocError>
         ensures { IfOk result (λ row. size ≤ row) }
     {
@@ -39,7 +39,7 @@ impl SegmentMachines {
         })
     }
 
-    /// The segment of the next machines, so many at most.
+    /// The segment of the next machines, at most `most` of them.
     fn fill(self, machines: &mut IntoIter<SlaveMachine>, most: usize) -> Segment
         requires { most ≤ self }
         ensures segment { result ≡ take most (into_iter_items machines.old) }
@@ -56,14 +56,13 @@ impl SegmentMachines {
     }
 }
 
-/// Room for segments of machines. Contracts see for how many segments there is room, and of how many machines each is at
-/// most.
+/// Room for segments of machines. Contracts see the number of segments, and the most machines of each.
 #[derive(Drop)]
 pub(crate) struct Cut {
     // no segment yet, but a place for one of each row
     segments: Vec<Segment>,
     rows: Vec<SegmentMachines>,
-    // the machines of a segment at most
+    // the most machines of a segment
     size: usize,
 }
 
@@ -91,7 +90,7 @@ fn rows_of(alloc: Global, number: usize, size: usize) -> Result<Vec<SegmentMachi
 }
 
 impl Cut {
-    /// Room for so many machines: at most four segments, each of at most a fourth of them, rounded up.
+    /// Room for `count` machines: at most four segments, each of at most a fourth of them, rounded up.
     pub(crate) fn new(alloc: Global, count: usize) -> Result<Cut, AllocError>
         ensures room { IfOk result (λ cut. count ≤ cut.number * cut.size) }
         ensures few { IfOk result (λ cut. cut.number ≤ 4) }
@@ -106,7 +105,7 @@ impl Cut {
         })
     }
 
-    /// The segments of these machines, for which there is room: all of them are used, though the last may be empty.
+    /// The segments of these machines. All segments are used, though the last may be empty.
     pub(crate) fn segments(self, machines: Vec<SlaveMachine>) -> Vec<Segment>
         requires { length machines.items ≤ self.number * self.size }
         ensures machines { all_machines result.items ≡ machines.items }

@@ -36,15 +36,15 @@ fn pass(machines: &mut [SlaveMachine], frame: &mut [u8])
 }
 
 impl Segment {
-    /// The segment of these machines, in this order. Takes no memory.
+    /// The segment of these machines, in this order. It does not allocate.
     pub fn of(machines: Vec<SlaveMachine>) -> Segment
         ensures { result ≡ machines.items }
     {
         Segment { machines }
     }
 
-    /// Passes a frame through the machines, one after another, in the frame's place. A frame that the reader reads is read
-    /// after them too. Takes no memory.
+    /// Passes a frame through the machines, one after another, in the frame's place. A frame that the reader reads can be read
+    /// after them too. It does not allocate.
     pub fn process(&mut self, frame: &mut [u8])
         ensures frame { frame.new ≡ frame_through self.old frame.old }
         ensures machines { self.new ≡ machines_after_frame self.old frame.old }
@@ -56,20 +56,21 @@ impl Segment {
         }
     }
 
-    /// The machines, in their order, each with its 12,288 bytes of memory. Takes a step for each of them, and no memory.
+    /// The machines, in their order, each with its 12,288 bytes of memory. It takes a step for each of them, and does not
+    /// allocate.
     pub fn machines(&self) -> &[SlaveMachine]
         ensures value { result.now ≡ self.now }
         ensures sizes { All (λ m. length m ≡ MEMORY_BYTES) self.now }
     {
         let machines = self.machines.as_slice();
-        // a list's value doesn't give its machines' sizes: each machine gives its own
+        // a list's value does not state its machines' sizes: each machine states its own
         for machine in machines {
             let _bytes = machine.memory();
         }
         machines
     }
 
-    /// Lends the machines for writing, in their order. Takes no memory.
+    /// Lends the machines for writing, in their order. It does not allocate.
     pub fn machines_mut(&mut self) -> &mut [SlaveMachine]
         ensures* written { sem 𝓛 (LendsMachines self.entry result) }
         ensures machines { result.now ≡ self.old }
@@ -77,7 +78,7 @@ impl Segment {
         self.machines.as_mut_slice()
     }
 
-    /// Gives the machines back. Takes no memory.
+    /// Gives the machines back. It does not allocate.
     pub fn into_machines(self) -> Vec<SlaveMachine>
         ensures { result.items ≡ self }
     {

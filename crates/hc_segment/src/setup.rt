@@ -28,7 +28,7 @@ fn alias_frame(alloc: Global, position: usize) -> Result<FrameBox, AllocError>
     FrameBox::of(alloc, &frame)
 }
 
-/// The frames that read the aliases of so many slaves.
+/// The frames that read the aliases of `count` slaves.
 fn alias_frames(alloc: Global, count: usize) -> Result<Vec<FrameBox>, AllocError>
     ensures { IfOk result (λ frames. frames.items ≡ alias_frames count) }
 {
@@ -49,7 +49,7 @@ fn station_frame(alloc: Global, position: usize, station: u16) -> Result<FrameBo
     FrameBox::of(alloc, &frame)
 }
 
-/// The frames that give the slaves of the line theirs.
+/// The frames that give the slaves of the line their station addresses.
 fn station_frames(alloc: Global, groups: &[Declared]) -> Result<Vec<FrameBox>, AllocError>
     requires { IsCounted groups.now }
     ensures { IfOk result (λ frames. frames.items ≡ station_frames 0 (line_from 1 groups.now)) }
@@ -62,7 +62,7 @@ fn station_frames(alloc: Global, groups: &[Declared]) -> Result<Vec<FrameBox>, A
     Ok(frames)
 }
 
-/// A byte of a frame, 0 where it has fewer.
+/// A byte of a frame. 0 if the frame has fewer bytes.
 fn byte_at(frame: &[u8], at: usize) -> u8
     ensures { result ≡ slice_index frame.now at }
 {
@@ -91,7 +91,7 @@ fn words_of(alloc: Global, frames: &[FrameBox]) -> Result<Vec<u16>, AllocError>
     Ok(words)
 }
 
-/// How many of such frames came back with the working counter 1.
+/// The number of frames of one datagram with two data bytes that came back with the working counter 1.
 fn taken_once(frames: &[FrameBox]) -> usize
     ensures { result ≡ length (filter is_taken_once frames.now) }
 {
@@ -105,8 +105,8 @@ fn taken_once(frames: &[FrameBox]) -> usize
 }
 
 impl SimulatedLine {
-    /// Reads the configured station alias of each machine, by its position (APRD, ETG.1000.4, 5.4), and answers them in the
-    /// order of the line. `ChainFault` where a growth was refused: no machine was read then, or all were.
+    /// Reads the configured station alias of each machine, by its position (APRD, ETG.1000.4, 5.4), and returns the aliases in
+    /// the order of the line. `ChainFault` if an allocation failed: no machine was read then, or all were.
     #[tactic(auto, unfolding(crate::specs::Setup::aliases_read, crate::specs::Setup::machines_scanned))]
     pub fn scan<R: Threads + Wait + Sync>(
         &mut self,
@@ -121,9 +121,9 @@ impl SimulatedLine {
         let frames = self.pass(rt, alloc, frames)?;
         Ok(words_of(alloc, &frames)?)
     }
-    /// Gives each slave of the line of these groups its station address, by its position (APWR, ETG.1000.4, 5.4), and
-    /// answers how many of the writes came back with the working counter 1. `ChainFault` where a growth was refused: no
-    /// slave was written to then.
+    /// Gives each slave of the line of these groups its station address, by its position (APWR, ETG.1000.4, 5.4). Returns the
+    /// number of writes that came back with the working counter 1. `ChainFault` if an allocation failed: no slave was written
+    /// to then.
     #[tactic(auto, unfolding(crate::specs::Setup::named_count, crate::specs::Setup::machines_named))]
     pub fn name<R: Threads + Wait + Sync>(
         &mut self,

@@ -8,18 +8,17 @@ use std::alloc::Global;
 use std::sync::Wait;
 use std::thread::Threads;
 
-/// How many frames were sent, or why none was; the bytes of an arena with four more than the frame has, or with one less;
-/// and the next serial.
+/// The number of frames sent, or the fault; the arena of 64 bytes after the call; and the next serial.
 type Sent = (Result<usize, CoreFault>, [u8; 64], u64);
 
-/// Whether the axis' blocks are written, its outputs moved to task 1, and the two moved blocks written.
+/// Writes the axis' blocks, moves its outputs to task 1, and writes the two moved blocks. True if all succeed.
 fn is_parted(alloc: Global, conductor: &mut Conductor) -> bool {
     are_written(alloc, conductor, 4)
         && is_edited(alloc, conductor, &MOVE, (1, 2, 2))
         && are_written(alloc, conductor, 2)
 }
 
-/// Both tasks are sent by `send`.
+/// Sends both tasks by `send`.
 fn sent(alloc: Global, conductor: &mut Conductor) -> Sent {
     let mut arena = [9; 64];
     let count = match conductor.send(alloc, &[0, 1], &mut arena) {
@@ -29,7 +28,7 @@ fn sent(alloc: Global, conductor: &mut Conductor) -> Sent {
     (count, arena, conductor.core().next_serial())
 }
 
-/// Both tasks are sent by a worker each, into so many bytes.
+/// Sends both tasks by a worker each, into a buffer of `room` bytes.
 fn sent_at_once<R: Threads + Sync>(
     rt: &R,
     alloc: Global,
@@ -49,7 +48,7 @@ fn sent_at_once<R: Threads + Sync>(
     (count, arena, conductor.core().next_serial())
 }
 
-/// What `send` does, from the axis' opening on.
+/// The result of `send` for both tasks, from the axis' opening on.
 fn by_send<R: Wait>(rt: &R, alloc: Global) -> Option<Sent> {
     let (mut conductor, _) = opened(rt, alloc)?;
     let done = if is_parted(alloc, &mut conductor) {
@@ -61,7 +60,7 @@ fn by_send<R: Wait>(rt: &R, alloc: Global) -> Option<Sent> {
     done
 }
 
-/// What workers do, with a byte too few and then with enough.
+/// The results of two sendings by workers: into 59 bytes, one too few, and then into 64.
 fn by_workers<R: Threads + Wait + Sync>(
     rt: &R,
     alloc: Global,
@@ -78,8 +77,8 @@ fn by_workers<R: Threads + Wait + Sync>(
     done
 }
 
-/// Refused, nothing is sent and no byte written. The frame is the one of `send`, and the first worker saw the
-/// second.
+/// A sending that fails for want of room writes no byte and uses no serial. The frame that workers write is the one of `send`,
+/// and the first worker saw the second.
 #[test]
 fn workers_write_what_is_sent(rt: HostRuntime) {
     let gate = WaitsForNext::shut();

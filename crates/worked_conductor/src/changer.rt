@@ -1,5 +1,5 @@
-//! The loops of docs/use/CONDUCTOR.md on the machine with a tool changer of examples/tool_changer.toml: its gripper comes and
-//! goes between cycles, and its slaves are simulated.
+//! The loops of docs/use/CONDUCTOR.md on the machine with a tool changer of examples/tool_changer.toml. Its gripper is
+//! connected and disconnected between cycles, and its slaves are simulated.
 
 use crate::changer::Tool::{Comes, Goes, Stays};
 use crate::lines::{first_two, opened_line};
@@ -153,7 +153,7 @@ impl Slaves {
         Ok(())
     }
 
-    /// A byte of a slave's memory; none where there is no such slave.
+    /// A byte of a slave's memory. None if there is no such slave or byte.
     fn byte(&self, place: usize, at: usize) -> Option<u8> {
         let machine = self.machines.get(place)?;
         machine.memory().get(at).copied()
@@ -172,7 +172,7 @@ fn always_there(alloc: Global) -> Result<Slaves, AllocError> {
     Ok(slaves)
 }
 
-/// What becomes of the gripper before a cycle.
+/// The change of the gripper before a cycle.
 #[derive(Clone, Copy)]
 enum Tool {
     Comes,
@@ -180,7 +180,8 @@ enum Tool {
     Stays,
 }
 
-/// The gripper comes, closed and with a pressure of 1,000, or goes. Whether the edit is accepted.
+/// Connects the gripper, closed and with a pressure of 1,000, or disconnects it. True if the edit is accepted, or the gripper
+/// stays.
 fn is_changed(alloc: Global, conductor: &mut Conductor, slaves: &mut Slaves, tool: Tool) -> bool {
     let edit = match tool {
         Tool::Comes => Edit::Connect(100),
@@ -194,8 +195,8 @@ fn is_changed(alloc: Global, conductor: &mut Conductor, slaves: &mut Slaves, too
     is_ready && matches!(conductor.edit(alloc, &edit), Answer::Edited { .. })
 }
 
-/// What a cycle shows: the position and the pressure as their tasks read them, and the first byte of outputs of axis X, of
-/// the machine and of the gripper as they lie in the slaves.
+/// The result of a cycle: the position and the pressure as their tasks read them, and the first byte of outputs of axis X, of
+/// the machine and of the gripper in the slaves' memory.
 type Shown = ([Option<u64>; 2], [Option<u8>; 3]);
 
 /// Both tasks' seats.
@@ -225,9 +226,9 @@ fn shown<R: Wait>(
 /// The position of axis X.
 const AT: Option<u64> = Some(74_565);
 
-/// Cycle by cycle. What is posted in one is sent in the next; a post for the epoch before an edit is refused, and the axis
-/// and the machine keep their outputs over it. The machine has four bits of outputs, the gripper two: the other bits that are
-/// posted are sent as 0.
+/// The results, cycle by cycle. A post of one cycle is sent in the next. A post for the epoch before an edit is refused, and
+/// the axis and the machine keep their outputs. The machine has four bits of outputs, the gripper two: the other bits of a post
+/// are sent as 0.
 const ROWS: [(Tool, Shown); 7] = [
     (Stays, ([AT, None], [Some(0), Some(0), None])),
     (Stays, ([AT, None], [Some(5), Some(1), None])),
@@ -238,7 +239,7 @@ const ROWS: [(Tool, Shown); 7] = [
     (Stays, ([AT, Some(1000)], [Some(5), Some(1), Some(1)])),
 ];
 
-/// The number of the first cycle that shows something else; their number where there is none.
+/// The number of the first cycle with another result. `ROWS.len()` if there is none.
 fn first_other<R: Wait>(
     rt: &R,
     alloc: Global,
@@ -261,7 +262,7 @@ fn first_other<R: Wait>(
     number
 }
 
-/// The number of the first cycle that shows something else, from the machine's opening on.
+/// The number of the first cycle with another result, from the machine's opening on.
 fn first_other_of<R: Wait>(rt: &R, alloc: Global) -> Option<usize> {
     let mut slaves = always_there(alloc).ok()?;
     let inputs = (VarId::new(POSITION)?, VarId::new(PRESSURE)?);
@@ -274,7 +275,7 @@ fn first_other_of<R: Wait>(rt: &R, alloc: Global) -> Option<usize> {
     number
 }
 
-/// The loops of the master and of its tasks go on, cycle by cycle, while a gripper comes and goes.
+/// The loops of the master and of its tasks go on, cycle by cycle, while a gripper is connected and disconnected.
 #[test]
 fn both_loops_go_on_over_tool_changes(rt: HostRuntime) {
     assert_eq!(rt; first_other_of(&rt, rt.alloc()), Some(ROWS.len()));

@@ -9,10 +9,10 @@ use std::alloc::Global;
 /// The most bytes of a frame.
 const FRAME: usize = 1514;
 
-/// How often a tool's blocks are written until it is given up.
+/// The number of tries to write a tool's blocks before it is given up.
 const TRIES: usize = 2;
 
-/// An edit is carried out, or why it is refused.
+/// Carries an edit out, or returns the fault by which it is refused.
 fn edit(alloc: Global, conductor: &mut Conductor, edit: &Edit) -> Result<(), CoreFault> {
     match conductor.edit(alloc, edit) {
         Answer::Refused(fault) => Err(fault),
@@ -20,7 +20,7 @@ fn edit(alloc: Global, conductor: &mut Conductor, edit: &Edit) -> Result<(), Cor
     }
 }
 
-/// The owed register blocks are written, as many as one frame holds. Whether each of these was.
+/// Writes the owed register blocks that fit into one frame. True if each of them was written.
 fn is_frame_written<N: Network>(
     alloc: Global,
     conductor: &mut Conductor,
@@ -42,7 +42,7 @@ fn is_frame_written<N: Network>(
     })
 }
 
-/// All owed register blocks are written; not where a frame misses one.
+/// Writes all owed register blocks. False if a frame misses one.
 fn are_written<N: Network>(
     alloc: Global,
     conductor: &mut Conductor,
@@ -59,7 +59,7 @@ fn are_written<N: Network>(
     Ok(conductor.core().owed() == 0)
 }
 
-/// A tool docks between two cycles. Whether it is there: where one of its blocks is missed twice, it is given up, and the
+/// Docks a tool between two cycles. True if its blocks are written. If two tries miss a block, the tool is given up, and the
 /// line is as it was before.
 pub fn dock<N: Network>(
     alloc: Global,

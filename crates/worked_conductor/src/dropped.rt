@@ -7,11 +7,11 @@ use hc_conductor::taking::Taken;
 use std::alloc::Global;
 use std::sync::Wait;
 
-/// What is taken and published while seats go.
+/// The posts taken, and the success of the publishing after them, three times.
 type Left = (Taken, bool, Taken, bool, Taken, bool);
 
-/// The seats of tasks 7 to 5 go: the first before it posts, the next between two takings, the last after them, with
-/// outputs held that it never posts.
+/// Drops the seats of tasks 7, 6 and 5. Task 7's goes before it posts, task 6's between its posts and a taking, task 5's after
+/// its posts, with outputs held that it never posts.
 fn left_by<R: Wait>(
     rt: &R,
     alloc: Global,
@@ -36,7 +36,7 @@ fn left_by<R: Wait>(
     Some((first.0, first.1, second.0, second.1, third.0, third.1))
 }
 
-/// What is left of dropped seats, from the axis' opening on.
+/// The results of takings and publishings with dropped seats, from the axis' opening on.
 fn left_on_axis<R: Wait>(rt: &R, alloc: Global) -> Option<Left> {
     let (mut conductor, mut seats) = opened(rt, alloc)?;
     let left = left_by(rt, alloc, &mut conductor, &mut seats);
@@ -44,7 +44,7 @@ fn left_on_axis<R: Wait>(rt: &R, alloc: Global) -> Option<Left> {
     left
 }
 
-/// What a seat posted is taken, also after its end, and what it only held isn't; publishing goes on.
+/// The posts of a seat are taken, also after it is dropped. Outputs that it only held are not, and publishing goes on.
 #[test]
 fn posts_outlive_their_seat(rt: HostRuntime) {
     assert_eq!(rt;

@@ -1,4 +1,4 @@
-//! Cycles where answers are lost, come twice, and come late, with an edit every hundred.
+//! Cycles with answers that are lost, come twice, or come late, and with an edit every hundred cycles.
 
 use crate::lines::{FRAME, are_written};
 use crate::working::{STEPS, byte_of, moment_of};
@@ -12,21 +12,21 @@ use std::sync::Wait;
 /// Cycles from one edit to the next.
 const CYCLES: u32 = 100;
 
-/// Where a frame's datagram has its data.
+/// The offset of the datagram's data in a frame.
 const DATA: usize = 26;
 
-/// What becomes of an answer.
+/// The fate of an answer.
 #[derive(Clone, Copy)]
 enum Fate {
-    /// It comes before anything else is sent.
+    /// The answer comes before anything else is sent.
     InTime,
-    /// It never comes.
+    /// The answer never comes.
     Lost,
-    /// It comes in time, and once more.
+    /// The answer comes in time, and once more.
     Twice,
-    /// It comes in the next cycle, before anything is sent there.
+    /// The answer comes in the next cycle, before anything is sent there.
     Late,
-    /// It comes in the next cycle, when its task was sent again.
+    /// The answer comes in the next cycle, after its task was sent again.
     TooLate,
 }
 
@@ -38,7 +38,7 @@ struct Late {
     too_late: bool,
 }
 
-/// What a master has beside its conductor: the number drawn last, an answer that is late, and how many posts were taken.
+/// The state of a master beside its conductor: the number drawn last, an answer that is late, and the number of posts taken.
 #[derive(Clone, Copy)]
 pub struct Master {
     drawn: u64,
@@ -56,12 +56,12 @@ impl Master {
         }
     }
 
-    /// How many posts were taken, accepted or refused.
+    /// The number of posts taken, accepted or refused.
     pub fn taken(&self) -> u64 {
         self.taken
     }
 
-    /// Draws what becomes of an answer.
+    /// Draws the fate of an answer.
     fn fate(&mut self) -> Fate {
         let mut drawn = self.drawn;
         drawn ^= drawn << 13;
@@ -77,7 +77,7 @@ impl Master {
         }
     }
 
-    /// Takes what tasks posted.
+    /// Takes the tasks' posts.
     pub fn take_posts(&mut self, conductor: &mut Conductor) {
         let taken = conductor.take_posts();
         let all = u64::from(taken.accepted).wrapping_add(u64::from(taken.refused));
@@ -85,7 +85,7 @@ impl Master {
     }
 }
 
-/// A frame arrives, and is this task's inputs, or stale where there is no task.
+/// A frame arrives. Some if it brings the inputs of the wanted task, or is stale if no task is wanted.
 fn come(alloc: Global, conductor: &mut Conductor, frame: &[u8], wanted: Option<u8>) -> Option<()> {
     let came = match conductor.arrive(alloc, frame) {
         Answer::Stale => None,
@@ -98,7 +98,7 @@ fn come(alloc: Global, conductor: &mut Conductor, frame: &[u8], wanted: Option<u
     if came == wanted { Some(()) } else { None }
 }
 
-/// What the slaves make of a task's frame: each byte of its inputs is the step's, and its counter the expected one.
+/// Makes the slaves' answer of a task's frame: each byte of its inputs is the step's, and its counter the expected one.
 pub fn answer(conductor: &Conductor, task: u8, step: u8, frame: &mut [u8]) -> Option<()> {
     let plan = conductor.core().plan();
     let datagram = plan.places().datagram(task, 0)?;
@@ -111,7 +111,7 @@ pub fn answer(conductor: &Conductor, task: u8, step: u8, frame: &mut [u8]) -> Op
     Some(())
 }
 
-/// A task is sent, and this becomes of its answer.
+/// Sends a task. Its answer has this fate.
 fn exchange(
     alloc: Global,
     conductor: &mut Conductor,
@@ -144,7 +144,7 @@ fn exchange(
     }
 }
 
-/// All tasks are sent, and the answers meet their fates.
+/// Sends all tasks. The fates of the answers are drawn.
 fn exchange_all(
     alloc: Global,
     conductor: &mut Conductor,
@@ -158,7 +158,7 @@ fn exchange_all(
     Some(())
 }
 
-/// All tasks are sent, and all answers come in time.
+/// Sends all tasks. All answers come in time.
 fn exchange_last(alloc: Global, conductor: &mut Conductor, master: &mut Master) -> Option<()> {
     for task in 0..TASKS {
         exchange(alloc, conductor, master, task, STEPS - 1, Fate::InTime)?;
@@ -166,7 +166,7 @@ fn exchange_last(alloc: Global, conductor: &mut Conductor, master: &mut Master) 
     Some(())
 }
 
-/// The feeder is docked where it isn't, and undocked where it is, and all owed blocks are written.
+/// Connects or disconnects the feeder, in turn, and writes all owed blocks.
 fn edited(alloc: Global, conductor: &mut Conductor) -> Option<()> {
     let edit = if conductor.core().plan().epoch() % 2 == 0 {
         Edit::Connect(200)
@@ -180,7 +180,7 @@ fn edited(alloc: Global, conductor: &mut Conductor) -> Option<()> {
     are_written(alloc, conductor, owed).then_some(())
 }
 
-/// A cycle, with an edit before it where an epoch's cycles are over.
+/// Plays a cycle. An edit comes first if an epoch's hundred cycles are over.
 fn play<R: Wait>(
     rt: &R,
     alloc: Global,
@@ -210,7 +210,7 @@ fn play<R: Wait>(
     conductor.publish(rt, alloc).ok()
 }
 
-/// Cycles with these numbers, the first edit after a hundred.
+/// Plays the cycles with these numbers. The first edit comes after a hundred cycles.
 pub fn play_all<R: Wait>(
     rt: &R,
     alloc: Global,
@@ -225,7 +225,7 @@ pub fn play_all<R: Wait>(
     Some(())
 }
 
-/// A last cycle, where all answers come in time: how far it is then.
+/// Plays a last cycle, in which all answers come in time, and returns its moment.
 pub fn play_last<R: Wait>(
     rt: &R,
     alloc: Global,

@@ -3,7 +3,7 @@ use hc_lend::Gate;
 use std::sync::atomic::{AtomicBool, Ordering};
 use std::thread;
 
-/// Worker 0 waits for worker 1, for at most 1,000,000 turns, and yields in each.
+/// A gate at which worker 0 waits for worker 1, for at most 1,000,000 turns, and yields in each.
 #[derive(Drop)]
 pub struct WaitsForNext {
     begun: AtomicBool,
@@ -11,7 +11,7 @@ pub struct WaitsForNext {
 }
 
 impl WaitsForNext {
-    /// Neither has begun.
+    /// A gate at which neither worker has begun.
     pub fn shut() -> WaitsForNext {
         WaitsForNext {
             begun: AtomicBool::new(false),
@@ -19,7 +19,7 @@ impl WaitsForNext {
         }
     }
 
-    /// Whether worker 0 saw that worker 1 has begun.
+    /// True if worker 0 saw that worker 1 has begun.
     pub fn has_seen(&self) -> bool {
         self.seen.load(Ordering::SeqCst)
     }

@@ -1,5 +1,5 @@
-//! The loop that gives up a tool which doesn't answer, between cycles of an axis. The tool has a task of its own, so it owes only
-//! its own blocks, and the axis loses no cycle.
+//! The loop that gives up a tool that does not answer, between cycles of an axis. The tool has a task of its own, so it owes
+//! only its own blocks, and the axis loses no cycle.
 
 use crate::docking::dock;
 use crate::giving_up::Tool::{Docks, Leaves, Misses, Stays};
@@ -48,7 +48,7 @@ const TOOL: u16 = 100;
 /// The position of the axis, and the pressure of the tool.
 const INPUTS: (u32, u32) = (11, 111);
 
-/// The axis, and the tool where it has contact. It counts the frames that are exchanged.
+/// The axis, and the tool, which answers if it has contact. The frames that are exchanged are counted.
 #[derive(Drop)]
 struct Slaves {
     axis: SlaveMachine,
@@ -75,18 +75,18 @@ fn slave(alloc: Global, station: u16, inputs: u16) -> Result<SlaveMachine, Alloc
     Ok(machine)
 }
 
-/// What becomes of the tool before a cycle.
+/// The change of the tool before a cycle.
 #[derive(Clone, Copy, PartialEq, Eq)]
 enum Tool {
-    /// It docks, and its slave answers.
+    /// The tool docks, and its slave answers.
     Docks,
-    /// It docks without contact, so that its slave answers nothing.
+    /// The tool docks without contact, so that its slave answers nothing.
     Misses,
     Leaves,
     Stays,
 }
 
-/// Whether that becomes of the tool.
+/// Carries the change out. True if it succeeds: a tool docks exactly if it has contact.
 fn is_changed(alloc: Global, conductor: &mut Conductor, slaves: &mut Slaves, tool: Tool) -> bool {
     if tool == Tool::Stays {
         return true;
@@ -100,14 +100,14 @@ fn is_changed(alloc: Global, conductor: &mut Conductor, slaves: &mut Slaves, too
     docked == Some(slaves.has_contact)
 }
 
-/// What a cycle shows: the position and the pressure as their tasks read them, the first byte of outputs of the axis, and how
-/// many frames were exchanged since the cycle before.
+/// The result of a cycle: the position and the pressure as their tasks read them, the first byte of outputs of the axis, and
+/// the number of frames exchanged since the cycle before.
 type Shown = (Option<u64>, Option<u64>, Option<u8>, u32);
 
 /// Both tasks' seats.
 type Seats = (TaskSeat, TaskSeat);
 
-/// A cycle of all threads, one after the other, where the axis is at a position.
+/// A cycle of all threads, one after the other, with the axis at the given position.
 fn shown<R: Wait>(
     rt: &R,
     alloc: Global,
@@ -127,10 +127,10 @@ fn shown<R: Wait>(
     ((motion, tool), if gone { Some(shown) } else { None })
 }
 
-/// Cycle by cycle, where the axis is at 1, 2 and so on, and posts where it is. It sees each position in its own cycle, and its
-/// outputs are those that it posted in the cycle before, but for a post of the epoch before an edit. Before the first cycle the
-/// axis' four blocks are written. A tool docks by one frame of writes; one that has no contact, by two frames before it is given
-/// up. A cycle takes a frame: both datagrams share it.
+/// The results, cycle by cycle, with the axis at 1, 2 and so on. Its task posts the position and sees each one in its own
+/// cycle. The outputs are those posted in the cycle before, but a post for the epoch before an edit is refused. Before the
+/// first cycle the axis' four blocks are written. A tool docks by one frame of writes, and one without contact is given up
+/// after two. A cycle takes one frame, which both datagrams share.
 const ROWS: [(Tool, Shown); 9] = [
     (Stays, (Some(1), None, Some(0), 5)),
     (Stays, (Some(2), None, Some(1), 1)),
@@ -143,7 +143,7 @@ const ROWS: [(Tool, Shown); 9] = [
     (Stays, (Some(9), None, Some(8), 1)),
 ];
 
-/// The number of the first cycle that shows something else; their number where there is none.
+/// The number of the first cycle with another result. `ROWS.len()` if there is none.
 fn first_other<R: Wait>(
     rt: &R,
     alloc: Global,
@@ -167,7 +167,7 @@ fn first_other<R: Wait>(
     usize::from(number)
 }
 
-/// The number of the first cycle that shows something else, from the machine's opening on.
+/// The number of the first cycle with another result, from the machine's opening on.
 fn first_other_of<R: Wait>(rt: &R, alloc: Global) -> Option<usize> {
     let mut slaves = Slaves {
         axis: slave(alloc, 1002, 0).ok()?,
@@ -185,7 +185,7 @@ fn first_other_of<R: Wait>(rt: &R, alloc: Global) -> Option<usize> {
     number
 }
 
-/// A tool that doesn't answer is given up, and the axis loses no cycle.
+/// A tool that does not answer is given up, and the axis loses no cycle.
 #[test]
 fn a_tool_is_given_up_without_a_lost_cycle(rt: HostRuntime) {
     assert_eq!(rt; first_other_of(&rt, rt.alloc()), Some(ROWS.len()));

@@ -1,5 +1,5 @@
-//! Each call of the conductor that takes memory: where a growth is refused nothing has changed, a view shows what was published
-//! before, and asked again it goes on.
+//! Each call of the conductor that allocates. If an allocation fails, nothing has changed, a view shows what was published
+//! before, and the repeated call succeeds.
 use crate::gates::WaitsForNext;
 use crate::growths::Call::{Arrive, Move, Publish, Send, SendAtOnce, Write};
 use crate::lines::{first_two, opening};
@@ -18,7 +18,7 @@ use std::thread::Threads;
 /// Room for the frame of both tasks, or for a write's.
 const ROOM: usize = 60;
 
-/// What is asked.
+/// A call of the conductor, with the axis' answer.
 enum Call {
     /// The first owed block is written, and the slave answers.
     Write,
@@ -28,13 +28,13 @@ enum Call {
     Send,
     /// Tasks 0 and 1 are sent by a worker each, and the axis answers.
     SendAtOnce,
-    /// What is in the arena arrives.
+    /// The bytes of the arena arrive.
     Arrive,
     /// All is published.
     Publish,
 }
 
-/// Up to the publishing of an answer, and after it.
+/// The calls up to the publishing of an answer, and those after it.
 const CALLS: [&[Call]; 2] = [
     &[
         Write, Arrive, Write, Arrive, Write, Arrive, Write, Arrive, Publish, Move, Write, Arrive,
@@ -43,14 +43,14 @@ const CALLS: [&[Call]; 2] = [
     &[SendAtOnce, Arrive],
 ];
 
-/// What task 0 sees after the publishing of the answer: its outputs are in the other task.
+/// The view of task 0 after the publishing of the answer: its outputs are in the other task.
 const MOVED: Moment = Moment {
     epoch: 1,
     data: Some(b"\x34\x0a"),
     values: &[(9, Err(1)), (1, Err(2)), (2, Ok(2612))],
 };
 
-/// The first owed block is written, and its slave counts it.
+/// Writes the first owed block into the arena, and counts it as its slave does. True if there is such a write.
 fn is_written(conductor: &mut Conductor, arena: &mut [u8; ROOM]) -> bool {
     let Ok(ROOM) = conductor.next_write(arena) else {
         return false;
@@ -72,7 +72,7 @@ fn answers(frames: usize, arena: &mut [u8; ROOM]) -> bool {
     frames == 1
 }
 
-/// Whether an answer is as it is to be; none where memory was wanted.
+/// True if an answer is the expected one. None if an allocation failed.
 fn is_answered(answer: Answer) -> Option<bool> {
     match answer {
         Answer::Refused(CoreFault::Memory) => None,
@@ -89,7 +89,7 @@ fn is_answered(answer: Answer) -> Option<bool> {
     }
 }
 
-/// Whether it goes as it is to; none where memory was wanted.
+/// Makes a call. True if its result is the expected one, and none if an allocation failed.
 fn ask<R: Threads + Wait + Sync>(
     rt: &R,
     alloc: Global,
@@ -119,13 +119,14 @@ fn ask<R: Threads + Wait + Sync>(
     }
 }
 
-/// What can be seen of a conductor: its next serial, its owed blocks and its epoch.
+/// The observable state of a conductor: its next serial, its owed blocks and its epoch.
 fn seen(conductor: &Conductor) -> (u64, u32, u32) {
     let core = conductor.core();
     (core.next_serial(), core.owed(), core.plan().epoch())
 }
 
-/// Asks, and asks again where memory was wanted, nothing has changed, and the seat sees what was published before.
+/// Makes a call, and repeats it once if an allocation failed. False if a result is wrong, the failed call changed something, or
+/// the seat does not see what was published before.
 fn asked<R: Threads + Wait + Sync>(
     rt: &R,
     alloc: Global,
@@ -147,7 +148,7 @@ fn asked<R: Threads + Wait + Sync>(
     (seat, again)
 }
 
-/// Whether all of these go as they are to, where this is published until the last of them.
+/// True if each of these calls has its result. `published` is the moment that a seat sees if a call fails at first.
 fn all_asked<R: Threads + Wait + Sync>(
     rt: &R,
     alloc: Global,
@@ -168,7 +169,7 @@ fn all_asked<R: Threads + Wait + Sync>(
     (seat, Ok(true))
 }
 
-/// Whether all goes as it is to, and the answer is seen once it is published.
+/// True if each call has its result, and the answer is seen once it is published.
 fn are_asked<R: Threads + Wait + Sync>(
     rt: &R,
     alloc: Global,
@@ -186,7 +187,7 @@ fn are_asked<R: Threads + Wait + Sync>(
     Ok(second? && is_moved && is_still)
 }
 
-/// The axis at its opening, opened again where memory was wanted; none where it is refused for any other cause.
+/// The axis at its opening, opened once more if an allocation failed. None if it is refused for any other cause.
 fn opened_again<R: Wait>(
     rt: &R,
     alloc: Global,
@@ -201,7 +202,7 @@ fn opened_again<R: Wait>(
     }
 }
 
-/// Whether all goes so from the opening on.
+/// True if all calls have their results, from the opening on.
 fn is_gone<R: Threads + Wait + Sync>(rt: &R, alloc: Global) -> Result<bool, AllocError> {
     let Some((mut conductor, seats)) = opened_again(rt, alloc)? else {
         return Ok(false);
@@ -214,7 +215,7 @@ fn is_gone<R: Threads + Wait + Sync>(rt: &R, alloc: Global) -> Result<bool, Allo
     gone
 }
 
-/// A refused growth changes nothing in any call of the conductor, and the call succeeds when it is repeated.
+/// A failed allocation changes nothing in any call of the conductor, and the repeated call succeeds.
 #[test]
 fn refused_growths_change_nothing(rt: HostRuntime) -> Result<(), Fail> {
     assert!(rt; is_gone(&rt, rt.alloc())?);

@@ -1,4 +1,4 @@
-//! Seats that post while the conductor takes, and that are then in one hand with it: all that waits is taken.
+//! Seats that post while the conductor takes posts, and then all in one thread with it: all waiting posts are taken.
 ghost use Rattle.std.specs.Prelude.{List, map};
 ghost use Rattle.hc_rings.specs.declared.posts.PostReceiver.{PostReceiver};
 ghost use Rattle.hc_conductor.specs.Seats.{sender};
@@ -13,8 +13,8 @@ use hc_publish::faults::OpenFault;
 use std::alloc::Global;
 use std::sync::Wait;
 
-/// How many of the seats post. It is proved that rings which were joined still are; there are eight seats, so deep is this
-/// recursion.
+/// Each seat posts, and the number of posts made is returned. It is proved that joined rings stay joined. The recursion is as
+/// deep as the number of seats, eight.
 fn posted(seats: &mut [TaskSeat]) -> u32
     ensures { (rings : List PostReceiver) → EachRing AreJoined (map sender seats.old) rings → EachRing AreJoined (map sender seats.new) rings }
 {
@@ -25,11 +25,12 @@ fn posted(seats: &mut [TaskSeat]) -> u32
     posted(others).saturating_add(one)
 }
 
-/// How many posts are made before a taking and after it, and what is taken, in the end by a thread that has all seats again.
+/// The number of posts before a taking, the posts it took, the number of posts after it, and the posts of two takings by a
+/// thread that has all seats again.
 type Joined = (u32, Taken, u32, Taken, Taken);
 
-/// All seats post, some posts are taken, all seats post twice, and all is taken. Nothing is asked but that the rings are
-/// joined, which they are at the opening.
+/// All seats post, some posts are taken, all seats post twice, and all posts are taken. The one precondition is that the rings
+/// are joined, which they are at the opening.
 fn all_taken(conductor: &mut Conductor, seats: &mut [TaskSeat]) -> Joined
     requires { EachRing AreJoined (map sender seats.old) conductor.old.rings }
 {
@@ -49,7 +50,7 @@ fn all_taken_on_axis<R: Wait>(rt: &R, alloc: Global) -> Result<Joined, OpenFault
     Ok(joined)
 }
 
-/// All posts that wait are taken once one thread has the conductor and all seats, whatever was taken before.
+/// All waiting posts are taken once one thread has the conductor and all seats, whatever was taken before.
 #[test]
 fn all_is_taken_after_other_takings(rt: HostRuntime) {
     assert_eq!(rt;

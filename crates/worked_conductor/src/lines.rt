@@ -18,7 +18,7 @@ use worked_views::projects::{AXIS, project_of};
 /// The bytes of each frame of this line: no datagram fills more than the shortest frame.
 pub const FRAME: usize = 60;
 
-/// The line at its opening, or why it isn't opened.
+/// The line at its opening, or the fault.
 pub fn opening<R: Wait>(rt: &R, alloc: Global) -> Result<(Conductor, Vec<TaskSeat>), OpenFault>
     ensures { IfOk result (λ opened. EachRing LostNoBuffer (map sender opened.1.items) opened.0.rings) }
 {
@@ -55,7 +55,7 @@ pub fn first_two(seats: Vec<TaskSeat>) -> Option<(TaskSeat, TaskSeat)>
     Some((first, second))
 }
 
-/// Whether the first owed block is written, and answered by the slave that has it: its counter is after 26 bytes of
+/// Writes the first owed block, which its slave answers. True if the write is done. The working counter is after 26 bytes of
 /// headers and the block, whose length the datagram gives.
 fn is_written(alloc: Global, conductor: &mut Conductor) -> bool
     ensures { conductor_origin conductor.new ≡ conductor_origin conductor.old }
@@ -72,7 +72,7 @@ fn is_written(alloc: Global, conductor: &mut Conductor) -> bool
     matches!(conductor.arrive(alloc, &frame), Answer::WriteDone)
 }
 
-/// Whether so many blocks are written.
+/// Writes `blocks` owed blocks. True if each write is done.
 pub fn are_written(alloc: Global, conductor: &mut Conductor, blocks: u32) -> bool
     ensures { conductor_origin conductor.new ≡ conductor_origin conductor.old }
 {
@@ -84,15 +84,15 @@ pub fn are_written(alloc: Global, conductor: &mut Conductor, blocks: u32) -> boo
     true
 }
 
-/// Whether the four blocks of the axis are written: of each area the sync manager's and the FMMU's.
+/// Writes the four blocks of the axis: a sync manager's and an FMMU's for each area. True if each write is done.
 pub fn is_programmed(alloc: Global, conductor: &mut Conductor) -> bool
     ensures { conductor_origin conductor.new ≡ conductor_origin conductor.old }
 {
     are_written(alloc, conductor, 4)
 }
 
-/// Whether task 0 is sent, and the axis answers its frame well: a byte of outputs and two of inputs, 0xa34, and the counter 3, 2
-/// for the outputs and 1 for the inputs.
+/// Sends task 0. True if the axis' answer to its frame is good: a byte of outputs, two of inputs, 0xa34, and the counter 3,
+/// which is 2 for the outputs and 1 for the inputs.
 pub fn is_answered(alloc: Global, conductor: &mut Conductor) -> bool
     ensures { conductor_origin conductor.new ≡ conductor_origin conductor.old }
 {

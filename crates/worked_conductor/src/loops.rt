@@ -10,16 +10,16 @@ use hc_records::records::VarId;
 use std::alloc::Global;
 use std::sync::Wait;
 
-/// Where frames go.
+/// The network to which frames go.
 pub trait Network {
-    /// A frame goes out, and what comes back is in its place.
+    /// Sends a frame out. The frame that comes back is in its place.
     fn exchange(&mut self, frame: &mut [u8]);
 }
 
 /// Room for the frames of both tasks.
 const ROOM: usize = 256;
 
-/// Each owed register block is written.
+/// Writes each owed register block.
 fn write_owed<N: Network>(
     alloc: Global,
     conductor: &mut Conductor,
@@ -37,7 +37,7 @@ fn write_owed<N: Network>(
     Ok(())
 }
 
-/// Each frame goes out, and what comes back is handed to the conductor.
+/// Sends each frame out, and hands the frame that comes back to the conductor.
 fn exchange_all<N: Network>(
     alloc: Global,
     conductor: &mut Conductor,
@@ -73,7 +73,7 @@ pub fn master_cycle<R: Wait, N: Network>(
     Ok(())
 }
 
-/// What a task reads, and its seat.
+/// The value that a task reads, and its seat.
 fn read(seat: TaskSeat, input: VarId) -> (TaskSeat, Option<u64>)
     ensures { task_seat_origin result.0 ≡ task_seat_origin seat }
 {
@@ -86,7 +86,7 @@ fn read(seat: TaskSeat, input: VarId) -> (TaskSeat, Option<u64>)
     }
 }
 
-/// Each byte of the outputs is this one, for the epoch that was viewed last.
+/// Posts outputs, each byte as this one, for the epoch that was viewed last.
 fn post(seat: &mut TaskSeat, byte: u8)
     ensures { task_seat_origin seat.new ≡ task_seat_origin seat.old }
 {
@@ -97,7 +97,8 @@ fn post(seat: &mut TaskSeat, byte: u8)
     let _ = seat.post(); // refused, they stay held
 }
 
-/// One cycle of a task's thread: what it read, and the seat for the next one, which is of the same conductor.
+/// One cycle of a task's thread. Returns the value that it read, and the seat for the next cycle, which is of the same
+/// conductor.
 pub fn task_cycle(seat: TaskSeat, input: VarId, byte: u8) -> (TaskSeat, Option<u64>)
     ensures { task_seat_origin result.0 ≡ task_seat_origin seat }
 {

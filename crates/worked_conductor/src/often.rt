@@ -11,7 +11,7 @@ use std::sync::atomic::{AtomicBool, Ordering};
 use std::thread::Threads;
 use worked_views::projects::EIGHT;
 
-/// All blocks are written, and so many cycles played, and one more: how far it is then.
+/// Writes all blocks, plays `cycles` cycles and one more, and returns the moment of the last one.
 fn played<R: Wait>(
     rt: &R,
     alloc: Global,
@@ -27,7 +27,7 @@ fn played<R: Wait>(
     play_last(rt, alloc, conductor, master)
 }
 
-/// Whether the tasks beside it saw what was sent, the last of it in the end, and all that they posted was taken.
+/// True if the tasks beside it saw the sent cycles, the last of them in the end, and all their posts were taken.
 fn are_shown<R: Threads + Wait + Sync>(
     rt: &R,
     alloc: Global,

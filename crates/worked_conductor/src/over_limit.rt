@@ -1,4 +1,4 @@
-//! A project whose opening line is too over its limit isn't opened.
+//! A project whose opening line needs too many datagrams is not opened.
 use hc_conductor::open;
 use hc_publish::faults::OpenFault;
 use hc_records::project::Project;
@@ -7,7 +7,7 @@ use std::sync::Wait;
 use std::test::Fail;
 use worked_views::projects::project_of;
 
-/// Adds a PDO of so many entries of 64 bits.
+/// Adds a PDO with this many entries of 64 bits.
 fn push_pdo(text: &mut String, index: u32, entries: u32) -> Result<(), AllocError> {
     text.push_str("{ index = ")?;
     write!(text, "{index}, entries = [")?;
@@ -17,8 +17,8 @@ fn push_pdo(text: &mut String, index: u32, entries: u32) -> Result<(), AllocErro
     text.push_str("] }, ")
 }
 
-/// Adds so many slaves, the first with this station address, each with outputs of 1,400 bytes in a task: no datagram has room
-/// for two of them.
+/// Adds `slaves` slaves, the first with the station address `first`, each with outputs of 1,400 bytes in a task. No datagram
+/// has room for two of them.
 fn push_slaves(text: &mut String, first: u32, slaves: u32, task: u32) -> Result<(), AllocError> {
     for number in 0..slaves {
         let station = first.saturating_add(number);
@@ -33,7 +33,7 @@ fn push_slaves(text: &mut String, first: u32, slaves: u32, task: u32) -> Result<
     Ok(())
 }
 
-/// A line with so many such slaves in task 5, as many in task 7, and sixteen in task 2.
+/// A line with `slaves` such slaves in task 5, as many in task 7, and sixteen in task 2.
 pub fn line_over_limit(alloc: Global, slaves: u32) -> Result<Project, AllocError> {
     let mut text = String::new(alloc);
     push_slaves(&mut text, 1000, slaves, 7)?;
@@ -42,7 +42,7 @@ pub fn line_over_limit(alloc: Global, slaves: u32) -> Result<Project, AllocError
     project_of(alloc, &[&text]).ok_or(AllocError)
 }
 
-/// Why the over its limit line isn't opened; none where it is.
+/// The fault by which the line is refused. None if it is opened.
 fn refusal<R: Wait>(rt: &R, alloc: Global, slaves: u32) -> Result<Option<OpenFault>, AllocError> {
     match open(rt, alloc, line_over_limit(alloc, slaves)?) {
         Ok((conductor, _)) => {
@@ -53,7 +53,7 @@ fn refusal<R: Wait>(rt: &R, alloc: Global, slaves: u32) -> Result<Option<OpenFau
     }
 }
 
-/// Sixteen datagrams are a task's most. Where two tasks need one more, the lower one is reported.
+/// A task has at most sixteen datagrams. If two tasks need one more, the lower one is reported.
 #[test]
 fn a_over_limit_project_names_its_lowest_task(rt: HostRuntime) -> Result<(), Fail> {
     let alloc = rt.alloc();

@@ -1,4 +1,4 @@
-//! What a seat of the axis' task posts: one byte of outputs.
+//! Posts of the axis' task, one byte of outputs, by its seat.
 ghost use Rattle.std.specs.Prelude.{◌≡◌};
 ghost use Rattle.hc_rings.specs.Ring.{SameSender};
 ghost use Rattle.hc_conductor.specs.Seats.{SeatPostsEach, task_seat_origin, sender};
@@ -7,18 +7,18 @@ use hc_conductor::seat::TaskSeat;
 use hc_conductor::taking::Taken;
 use hc_rings::{NoSpare, PostFault};
 
-/// Why a byte isn't posted.
+/// The cause for which a byte is not posted.
 #[derive(Clone, Copy, Debug, PartialEq, Eq)]
 pub enum Unposted {
     /// No buffer is free.
     NoSpare,
-    /// The outputs that are lent aren't one byte that is 0.
+    /// The held outputs are not one byte that is 0.
     NotBlank,
-    /// The post isn't made.
+    /// The post is not made.
     Fault(PostFault),
 }
 
-/// The outputs that are lent are one byte that is 0, and then this one.
+/// Holds outputs, one byte that must be 0, and fills them with this byte.
 pub fn lends(seat: &mut TaskSeat, byte: u8) -> Result<(), Unposted> {
     match seat.outputs() {
         Ok(outputs) => {
@@ -34,13 +34,13 @@ pub fn lends(seat: &mut TaskSeat, byte: u8) -> Result<(), Unposted> {
     }
 }
 
-/// The byte is posted.
+/// Posts one byte.
 pub fn post(seat: &mut TaskSeat, byte: u8) -> Result<(), Unposted> {
     lends(seat, byte)?;
     seat.post().map_err(Unposted::Fault)
 }
 
-/// Whether outputs are posted, each byte as this one.
+/// Posts outputs, each byte as this one. True if the post is made.
 pub fn is_posted(seat: &mut TaskSeat, byte: u8) -> bool
     ensures origin { task_seat_origin seat.new ≡ task_seat_origin seat.old }
     ensures ring { SameSender (sender seat.old) (sender seat.new) }

@@ -1,4 +1,4 @@
-//! What comes of a task's posts, sendings and answers with its seat beside them: rows worked out by hand.
+//! Results of a task's posts, sendings and answers with its seat beside them: rows worked out by hand.
 use crate::lines::{first_two, opened};
 use crate::posting::{Unposted, accepted, post};
 use crate::rows::Moment;
@@ -13,11 +13,11 @@ use std::sync::Wait;
 const SENT: &[u8] =
     b"\xff\xff\xff\xff\xff\xff\x02\0\0\0\0\x04\x88\xa4\x0f\x10\x0c\x04\0\0\0\x01\x03\0\0\0\x02";
 
-/// It comes back with inputs of 0xa34 and the expected working counter, cut after it.
+/// The answer to the frame of task 0 with serial 4: inputs of 0xa34 and the expected working counter, cut after the counter.
 const ANSWER: &[u8] =
     b"\xff\xff\xff\xff\xff\xff\x02\0\0\0\0\x04\x88\xa4\x0f\x10\x0c\x04\0\0\0\x01\x03\0\0\0\x02\x34\x0a\x03\0";
 
-/// The next one comes back with the counter 2.
+/// The answer to the frame of task 0 with serial 5, with the working counter 2.
 const MISCOUNTED: &[u8] =
     b"\xff\xff\xff\xff\xff\xff\x02\0\0\0\0\x05\x88\xa4\x0f\x10\x0c\x05\0\0\0\x01\x03\0\0\0\x02\x55\x05\x02\0";
 
@@ -118,7 +118,7 @@ const ROWS: [&[Step]; 5] = [
     ],
 ];
 
-/// The number of the first step that doesn't come so, from the axis' opening on.
+/// The number of the first step with another result, from the axis' opening on. The number of steps if there is none.
 fn wrong_step<R: Wait>(rt: &R, alloc: Global, steps: &[Step]) -> Option<usize> {
     let Some((mut conductor, seats)) = opened(rt, alloc) else {
         return None;
@@ -139,7 +139,7 @@ fn steps_come_as_worked_out(rt: HostRuntime) {
     }
 }
 
-/// What comes of five posts, of taking them, and of one more that is taken.
+/// The results of five posts, of taking them, of one more post, and of taking it.
 type Five = (
     [Result<(), Unposted>; 5],
     Taken,

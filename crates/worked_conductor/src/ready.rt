@@ -103,7 +103,7 @@ fn simulated(alloc: Global) -> Result<Slaves, AllocError> {
     })
 }
 
-/// Whether an arrival brought the inputs of each datagram of its frame.
+/// True if an arrival brought the inputs of each datagram of its frame.
 fn brings_inputs(answer: Answer) -> bool {
     match answer {
         Answer::Answered(outcomes) => outcomes.as_slice().iter().all(|outcome| {
@@ -202,12 +202,12 @@ fn connect(
     Ok(is_off)
 }
 
-/// What happens to the line from its opening on, with the axis' blocks written.
+/// A course of events on the line, from its opening on, with the axis' blocks written.
 trait Story {
-    /// What it shows.
+    /// The result of the story.
     type Shown: Drop;
 
-    /// It happens.
+    /// Carries the story out.
     fn run(
         &self,
         alloc: Global,
@@ -216,11 +216,12 @@ trait Story {
     ) -> Result<Self::Shown, CoreFault>;
 }
 
-/// A gripper comes. It shows each step that went as it should.
+/// A gripper is connected. The result is the success of each step.
 #[derive(Drop)]
 struct Coming;
 
-/// A gripper does not answer for 1,000 cycles. It shows how many of them exchange the axis, and how many write its blocks.
+/// A gripper does not answer for 1,000 cycles. The result is the number of cycles that exchange the axis, and of those that
+/// write the gripper's blocks.
 #[derive(Drop)]
 struct Silence;
 
@@ -228,7 +229,7 @@ struct Silence;
 #[derive(Drop)]
 struct Clearing;
 
-/// It is unplugged then.
+/// A gripper is disconnected and stays plugged, another one comes to its task, and then the first one is unplugged.
 #[derive(Drop)]
 struct Unplugging;
 
@@ -315,8 +316,8 @@ fn swap(
     Ok([written, first, second, waits, axis])
 }
 
-/// What a change of grippers shows: whether each step went as it should, and the outputs of both grippers before and after the
-/// task of the second one was sent.
+/// The result of a change of grippers: the success of each step, and the outputs of both grippers before and after the task of
+/// the second one was sent.
 type Change = (
     [bool; 5],
     (Option<u8>, Option<u8>),
@@ -360,7 +361,7 @@ impl Story for Unplugging {
     }
 }
 
-/// What a story shows. None if the line is not opened, or the axis' blocks are not written.
+/// The result of a story. None if the line is not opened, the axis' blocks are not written, or a call fails.
 fn shown_by<R: Wait, S: Story>(rt: &R, alloc: Global, story: &S) -> Option<S::Shown> {
     let mut slaves = simulated(alloc).ok()?;
     let (mut conductor, seats) = opened_line(rt, alloc, LINE)?;
@@ -399,7 +400,7 @@ fn a_plugged_tool_holds_its_task_until_it_is_cleared(rt: HostRuntime) {
     assert_eq!(rt; shown_by(&rt, rt.alloc(), &Clearing), Some(wanted));
 }
 
-/// It holds its task up until it is unplugged, too.
+/// A gripper that was disconnected and stays on the wire holds its task up until it is unplugged.
 #[test]
 fn a_plugged_tool_holds_its_task_until_it_is_unplugged(rt: HostRuntime) {
     let wanted = (

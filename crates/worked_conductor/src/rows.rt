@@ -1,4 +1,4 @@
-//! What the seats of tasks 0 and 1 see of the axis' answer: rows worked out by hand.
+//! Views of the axis' answer by the seats of tasks 0 and 1: rows worked out by hand.
 ghost use Rattle.std.specs.Prelude.{◌≡◌};
 ghost use Rattle.hc_conductor.specs.Conducting.{conductor_origin};
 ghost use Rattle.hc_conductor.specs.Seats.{task_seat_origin};
@@ -14,7 +14,7 @@ use std::sync::Wait;
 /// A variable's number, and its value or the number of a fault.
 pub type ShownValue = (u32, Result<u64, u8>);
 
-/// What a view shows: the epoch, the data of its task's first datagram, and what it says of variables.
+/// The contents of a view: the epoch, the data of its task's first datagram, and the values of variables.
 pub struct Moment {
     pub epoch: u32,
     pub data: Option<&'static [u8]>,
@@ -42,7 +42,7 @@ pub const ELSEWHERE: Moment = Moment {
     values: &[(9, Err(1)), (1, Err(2)), (2, Err(3))],
 };
 
-/// Whether a view says all of this of variables.
+/// True if a view gives each of these variables its value or fault.
 fn says_all(view: &TaskView, rows: &[ShownValue]) -> bool {
     for (number, value) in rows {
         let Some(variable) = VarId::new(*number) else {
@@ -59,7 +59,7 @@ fn says_all(view: &TaskView, rows: &[ShownValue]) -> bool {
     true
 }
 
-/// Whether a datagram has just these data, or none.
+/// True if a datagram has exactly these data, or none.
 pub fn has(data: Option<&[u8]>, wanted: Option<&[u8]>) -> bool {
     match (data, wanted) {
         (Some(data), Some(wanted)) => data == wanted,
@@ -68,7 +68,7 @@ pub fn has(data: Option<&[u8]>, wanted: Option<&[u8]>) -> bool {
     }
 }
 
-/// A view is taken and left, and whether it showed this.
+/// Takes a view and leaves it. True if it showed this moment.
 pub fn sees(seat: TaskSeat, moment: &Moment) -> (TaskSeat, bool)
     ensures { task_seat_origin result.0 ≡ task_seat_origin seat }
 {
@@ -83,7 +83,7 @@ pub fn sees(seat: TaskSeat, moment: &Moment) -> (TaskSeat, bool)
     }
 }
 
-/// Whether the answer is seen once it is published, and by a note, and not before.
+/// True if the answer is seen once it is published and a note is learned, and not before.
 fn is_seen<R: Wait>(
     rt: &R,
     alloc: Global,
@@ -106,7 +106,7 @@ fn is_seen<R: Wait>(
     before && after_it && elsewhere
 }
 
-/// Opens the line, and whether the two seats see what they are to see.
+/// Opens the line. True if the two seats see their moments.
 fn is_shown<R: Wait>(rt: &R, alloc: Global) -> bool {
     let Some((mut conductor, seats)) = opened(rt, alloc) else {
         return false;

@@ -14,7 +14,7 @@ use std::alloc::Global;
 use std::sync::Wait;
 use std::thread::{self, Threads, join};
 
-/// The seat of the axis' task, or of the other one, sees the opening and posts: the seat, and whether both went.
+/// The seat of the axis' task, or of the other one, sees the opening and posts. Returns the seat, and true if both succeed.
 fn worked(seat: TaskSeat, is_own: bool) -> (TaskSeat, bool)
     ensures { task_seat_origin result.0 ≡ task_seat_origin seat }
 {
@@ -24,7 +24,7 @@ fn worked(seat: TaskSeat, is_own: bool) -> (TaskSeat, bool)
     (seat, seen && posted)
 }
 
-/// A task works in a thread of its own while something is done.
+/// A task works in a thread of its own beside `work`.
 fn beside<R: Threads, A, F: FnOnce() -> A>(
     rt: &R,
     seat: TaskSeat,
@@ -44,7 +44,7 @@ fn beside<R: Threads, A, F: FnOnce() -> A>(
     )
 }
 
-/// Two tasks work, each in a thread of its own, while something is done.
+/// Two tasks work, each in a thread of its own, beside `work`.
 fn beside_two<R: Threads, A, F: FnOnce() -> A>(
     rt: &R,
     one: TaskSeat,
@@ -67,7 +67,7 @@ fn beside_two<R: Threads, A, F: FnOnce() -> A>(
     )
 }
 
-/// Posts are taken until two were, for at most 1,000,000 calls, and yields after each.
+/// Takes posts until two were accepted, for at most 1,000,000 calls, and yields after each.
 fn takes_two(conductor: &mut Conductor) -> bool
     ensures { conductor_origin conductor.new ≡ conductor_origin conductor.old }
 {
@@ -82,7 +82,7 @@ fn takes_two(conductor: &mut Conductor) -> bool
     false
 }
 
-/// The posts of both tasks are taken, an answer comes and is published: two notes of that.
+/// Takes the posts of both tasks, exchanges task 0 and publishes the answer. Returns two notes of the publishing.
 fn two_notes<R: Wait>(rt: &R, alloc: Global, conductor: &mut Conductor) -> Option<(Note, Note)>
     ensures { IfSome result (λ notes. (note_origin notes.0 ≡ conductor_origin conductor.old) × (note_origin notes.1 ≡ conductor_origin conductor.old)) }
 {
@@ -93,7 +93,7 @@ fn two_notes<R: Wait>(rt: &R, alloc: Global, conductor: &mut Conductor) -> Optio
     Some((conductor.note(), conductor.note()))
 }
 
-/// Whether a view after a note shows this.
+/// True if a view after a note shows this moment.
 fn learned(mut seat: TaskSeat, note: Note, moment: &Moment) -> bool
     requires { note_origin note ≡ task_seat_origin seat }
 {
@@ -101,7 +101,7 @@ fn learned(mut seat: TaskSeat, note: Note, moment: &Moment) -> bool
     sees(seat, moment).1
 }
 
-/// Whether each seat shows the answer in a thread of its own, after a note.
+/// True if each seat, in a thread of its own, learns a note and sees its moment.
 fn both_learned<R: Threads>(rt: &R, one: TaskSeat, two: TaskSeat, first: Note, second: Note) -> bool
     requires one { note_origin first ≡ task_seat_origin one }
     requires two { note_origin second ≡ task_seat_origin two }
@@ -142,7 +142,7 @@ fn two_scopes<R: Threads + Wait>(
     Some(worked && also && shown)
 }
 
-/// Opens the line, and whether both scopes showed what they are to show.
+/// Opens the line. True if both scopes have their results.
 fn is_shown<R: Threads + Wait>(rt: &R, alloc: Global) -> bool {
     let Some((mut conductor, seats)) = opened(rt, alloc) else {
         return false;

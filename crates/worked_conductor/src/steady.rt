@@ -1,5 +1,5 @@
-//! Cycles of eight tasks with the lists and the memory of answers used again: posts, sendings, arrivals and a publishing, all
-//! in one thread. After the first ones no growth is met any more, which is counted from outside (`ci/sweep.sh`).
+//! Cycles of eight tasks, all in one thread: posts, sendings, arrivals and a publishing. The lists and the memory of answers
+//! are used again. After the first cycles no allocation is made, which is counted from outside (`ci/sweep.sh`).
 
 use crate::fates::answer;
 use crate::lines::{FRAME, are_written, opened_line};
@@ -22,14 +22,14 @@ const MOST_FRAMES: usize = 128;
 /// As many outcomes as any answer has.
 const MOST_OUTCOMES: usize = 115;
 
-/// What a cycle uses again, with room for the frames of any sending and the outcomes of any answer.
+/// The lists that a cycle uses again, with room for the frames of any sending and the outcomes of any answer.
 #[derive(Drop)]
 struct Lists {
     frames: Vec<Sending>,
     outcomes: Vec<Outcome>,
 }
 
-/// Whether the core reads what the slaves sent as this task's inputs, after its outputs.
+/// True if the core reads the byte that the slaves sent as this task's first input, after its outputs.
 fn is_read(conductor: &Conductor, task: u8, step: u8) -> bool {
     let plan = conductor.core().plan();
     let (outputs, _) = plan.places().part(task);
@@ -39,7 +39,7 @@ fn is_read(conductor: &Conductor, task: u8, step: u8) -> bool {
     }
 }
 
-/// Whether a task is sent in one frame, and answered well.
+/// Sends a task and takes its answer. True if it was sent in one frame, and the answer is good.
 fn is_exchanged(
     alloc: Global,
     conductor: &mut Conductor,
@@ -60,7 +60,7 @@ fn is_exchanged(
     Ok(arrived == Arrived::Answered && is_good && is_read(conductor, task, step))
 }
 
-/// Whether all tasks are.
+/// Sends all tasks and takes their answers. True if each exchange is good.
 fn are_exchanged(
     alloc: Global,
     conductor: &mut Conductor,
@@ -75,7 +75,7 @@ fn are_exchanged(
     Ok(true)
 }
 
-/// Whether each task posts.
+/// Each task posts. True if each post is made.
 fn are_posted(seats: &mut Vec<TaskSeat>, byte: u8) -> bool {
     for seat in seats.iter_mut() {
         if !is_posted(seat, byte) {
@@ -85,7 +85,7 @@ fn are_posted(seats: &mut Vec<TaskSeat>, byte: u8) -> bool {
     true
 }
 
-/// Whether a cycle goes as it is to.
+/// Plays a cycle. True if its posts, takings and exchanges succeed.
 fn is_played<R: Wait>(
     rt: &R,
     alloc: Global,
@@ -101,7 +101,7 @@ fn is_played<R: Wait>(
     Ok(posted && taken.accepted == u32::from(TASKS) && exchanged)
 }
 
-/// Whether so many cycles do, after the writes of all blocks.
+/// Writes all blocks, and plays `cycles` cycles. True if each of them succeeds.
 fn are_played<R: Wait>(
     rt: &R,
     alloc: Global,
@@ -138,7 +138,7 @@ fn few_cycles(rt: HostRuntime) -> Result<(), Fail> {
     Ok(())
 }
 
-/// With as many growths as in few.
+/// Forty cycles of eight tasks go as they should, and make as many allocations as four, as `ci/sweep.sh` counts.
 #[test]
 fn many_cycles(rt: HostRuntime) -> Result<(), Fail> {
     assert!(rt; is_steady(&rt, rt.alloc(), 40)?);

@@ -1,4 +1,4 @@
-//! What is done with a conductor and the seat of task 0, and what is to come of it.
+//! Steps of a conductor and of the seat of task 0, each with its result.
 use crate::lines::{FRAME, are_written};
 use crate::posting::lends;
 use crate::rows::{Moment, has, sees};
@@ -12,24 +12,24 @@ use hc_rings::PostFault;
 use std::alloc::Global;
 use std::sync::Wait;
 
-/// What an arrival is of the axis' datagram.
+/// The result of an arrival for the axis' datagram.
 #[derive(Clone, Copy, PartialEq, Eq)]
 pub enum Came {
-    /// Its inputs.
+    /// The inputs of the axis' datagram.
     Inputs,
-    /// It came back with another working counter than the expected one.
+    /// The datagram came back with another working counter than the expected one.
     WrongCount(u16, u16),
-    /// It answers nothing.
+    /// The frame answers nothing.
     Stale,
 }
 
-/// A step, with what is to come of it.
+/// A step, with its result.
 pub enum Step {
     /// This many blocks are written and answered well.
     Write(u32),
-    /// Outputs are lent, one byte that is 0, and then this one.
+    /// Outputs are held, one byte that is 0, and then filled with this one.
     Lend(u8),
-    /// The outputs that were lent are posted, or not.
+    /// The held outputs are posted, or the post fails.
     Post(Result<(), PostFault>),
     /// This many posts are taken and accepted, and this many refused.
     Take(u32, u32),
@@ -37,7 +37,7 @@ pub enum Step {
     Remap(u32),
     /// The outputs move to task 1: the epoch that begins with it, the spans and the blocks.
     Move(u32, u32, u32),
-    /// A task is sent: what is before zeros.
+    /// A task is sent. The frame has these bytes, and zeros after them.
     Send(u8, &'static [u8]),
     /// A frame arrives.
     Come(&'static [u8], Came),
@@ -49,7 +49,7 @@ pub enum Step {
     See(Moment),
 }
 
-/// Whether an edit is accepted with these numbers.
+/// True if an edit is accepted with this epoch, and with these numbers of spans recut and blocks moved.
 pub fn is_edited(
     alloc: Global,
     conductor: &mut Conductor,
@@ -66,7 +66,7 @@ pub fn is_edited(
     }
 }
 
-/// Whether the inputs can be mapped anew as they are, which moves nothing.
+/// Maps the inputs anew as they are. True if the edit is accepted and moves nothing.
 pub fn is_mapped(alloc: Global, conductor: &mut Conductor, epoch: u32) -> bool {
     let Ok(indexes) = Vec::from_slice(alloc, &[0x1a00]) else {
         return false;
@@ -86,7 +86,7 @@ pub const MOVE: Edit = Edit::Move {
     task: 1,
 };
 
-/// Whether one frame of a task is sent, and this is in it before zeros.
+/// Sends a task. True if it is sent in one frame, which has these bytes and zeros after them.
 fn is_sent(alloc: Global, conductor: &mut Conductor, task: u8, text: &[u8]) -> bool {
     let mut frame = [0; FRAME];
     let Ok(frames) = conductor.send(alloc, &[task], &mut frame) else {
@@ -98,7 +98,7 @@ fn is_sent(alloc: Global, conductor: &mut Conductor, task: u8, text: &[u8]) -> b
     frames.len() == 1 && frame.starts_with(text) && [0; FRAME].starts_with(rest)
 }
 
-/// What a frame is that arrives; none where it is anything else.
+/// The result of an arrival. None if it is none of the three.
 fn judged(alloc: Global, conductor: &mut Conductor, bytes: &[u8]) -> Option<Came> {
     match conductor.arrive(alloc, bytes) {
         Answer::Stale => Some(Came::Stale),
@@ -116,7 +116,7 @@ fn judged(alloc: Global, conductor: &mut Conductor, bytes: &[u8]) -> Option<Came
     }
 }
 
-/// Whether task 0 reads this epoch and these data of its only datagram, or none.
+/// True if task 0 reads this epoch and these data of its only datagram, or none.
 fn is_read(alloc: Global, conductor: &Conductor, epoch: u32, data: Option<&[u8]>) -> bool {
     match conductor.core().read(alloc, 0) {
         Ok(Answer::Image { epoch: now, slots }) => match slots.as_slice() {
@@ -128,7 +128,7 @@ fn is_read(alloc: Global, conductor: &Conductor, epoch: u32, data: Option<&[u8]>
     }
 }
 
-/// Whether what a step does with the conductor alone comes so.
+/// True if a step of the conductor alone has its result.
 fn is_driven(alloc: Global, conductor: &mut Conductor, step: &Step) -> bool {
     match step {
         Step::Write(blocks) => are_written(alloc, conductor, *blocks),
@@ -150,7 +150,7 @@ fn is_driven(alloc: Global, conductor: &mut Conductor, step: &Step) -> bool {
     }
 }
 
-/// The number of the first step that doesn't come so; their number where all do.
+/// The number of the first step with another result. The number of steps if there is none.
 pub fn first_wrong<R: Wait>(
     rt: &R,
     alloc: Global,

@@ -10,7 +10,7 @@ use std::thread::{Threads, join, map_vec};
 /// The steps of an epoch.
 pub const STEPS: u8 = 25;
 
-/// How far tasks viewed last, and how many posts they made.
+/// The moment viewed last, and the number of posts made.
 pub type Worked = (u64, u64);
 
 /// The byte that slaves send in an epoch at this step of it: no other step of it has this byte, and none of the nine
@@ -19,7 +19,7 @@ pub fn byte_of(epoch: u32, step: u8) -> u8 {
     (epoch % 10) as u8 * STEPS + step % STEPS
 }
 
-/// How far it is at this step of an epoch, or before its first answer.
+/// The moment of an epoch's step, or of its opening before the first answer. Later moments have greater numbers.
 pub fn moment_of(epoch: u32, step: Option<u8>) -> u64 {
     let opened = u64::from(epoch) * 26;
     match step {
@@ -28,7 +28,7 @@ pub fn moment_of(epoch: u32, step: Option<u8>) -> u64 {
     }
 }
 
-/// Whether all these bytes are this one.
+/// True if all these bytes are this one.
 fn are_all(bytes: &[u8], byte: u8) -> bool {
     for own in bytes {
         if *own != byte {
@@ -38,8 +38,7 @@ fn are_all(bytes: &[u8], byte: u8) -> bool {
     true
 }
 
-/// How far a view is. None where an input isn't what its slave sent at a step of the view's epoch, or two inputs are of
-/// different steps.
+/// The moment of a view. None if an input is not the byte of a step of the view's epoch, or two inputs are of different steps.
 fn moment_seen(view: &TaskView) -> Option<u64> {
     let epoch = view.epoch();
     let Some(data) = view.inputs(0) else {
@@ -56,7 +55,7 @@ fn moment_seen(view: &TaskView) -> Option<u64> {
     }
 }
 
-/// A view is taken and left.
+/// Takes a view and leaves it. Returns the seat and the view's moment.
 fn looked(seat: TaskSeat) -> (TaskSeat, Option<u64>) {
     match seat.view() {
         Ok(view) => {
@@ -67,8 +66,8 @@ fn looked(seat: TaskSeat) -> (TaskSeat, Option<u64>) {
     }
 }
 
-/// Views and posts in turn until all is done, and one view more. None where a view was none, or less far than the one
-/// before.
+/// Views and posts in turn until all is done, and views once more. None if a view is refused or false, or is earlier than the
+/// one before.
 fn worked_until(seat: TaskSeat, is_done: &AtomicBool) -> Option<Worked> {
     let mut seat = seat;
     let (mut last, mut posts) = (0, 0_u64);
@@ -90,8 +89,8 @@ fn worked_until(seat: TaskSeat, is_done: &AtomicBool) -> Option<Worked> {
     None
 }
 
-/// Eight work, each in a thread of its own, until all is done: how far all came, where they came equally far, and all their
-/// posts. None where there are more or fewer.
+/// Eight tasks work, each in a thread of its own, until all is done. Returns the moment to which all came, and the number of
+/// all their posts. None if there are more or fewer seats, or two tasks differ.
 fn worked<R: Threads + Sync>(rt: &R, seats: Vec<TaskSeat>, is_done: &AtomicBool) -> Option<Worked> {
     if seats.len() != 8 {
         return None;
@@ -114,7 +113,7 @@ fn worked<R: Threads + Sync>(rt: &R, seats: Vec<TaskSeat>, is_done: &AtomicBool)
     Some((first, all))
 }
 
-/// Eight tasks work so while something goes on, which says when all is done: what all come to.
+/// Eight tasks work beside `work`, which sets the flag when all is done. Returns the result of the tasks and that of `work`.
 pub fn work_eight<R: Threads + Sync, A, F: FnOnce() -> A>(
     rt: &R,
     seats: Vec<TaskSeat>,

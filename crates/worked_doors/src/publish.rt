@@ -1,4 +1,4 @@
-//! What the core's thread publishes is seen from a task's seat.
+//! A task's seat views the changes that the core's thread publishes.
 use crate::opened::axis_plan;
 use hc_publish::open;
 use std::test::Fail;

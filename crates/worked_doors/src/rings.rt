@@ -2,7 +2,7 @@
 use hc_rings::post_ring;
 use std::test::Fail;
 
-/// What is posted is taken, and its buffer given back.
+/// The task's post is taken, and its buffer given back.
 #[test]
 fn a_post_is_taken(rt: HostRuntime) -> Result<(), Fail> {
     let (mut sender, mut receiver) = post_ring(rt.alloc())?;

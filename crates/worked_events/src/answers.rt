@@ -177,7 +177,7 @@ const LAST_OF_MANY: &[Row] = &[
     ),
 ];
 
-/// All of them, each from the axis' opening on.
+/// The lines of these rows, each from the axis' opening on.
 const ANSWERS: &[Case] = &[
     (AXIS, &[Blocks(4), Rows(UNPOSTED)]),
     (AXIS, &[Blocks(4), Rows(POSTED)]),

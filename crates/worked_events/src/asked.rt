@@ -1,4 +1,4 @@
-//! Rows of events and of the answers that they are to have, as constant tables, and their judges.
+//! Rows of events with their expected answers, as constant tables, and the comparison with a core's answers.
 use crate::driven::Driven;
 use crate::texts::back;
 use hc_events::answer::{Answer, Outcome};
@@ -13,8 +13,7 @@ use std::alloc::{AllocError, Global};
 /// A datagram that comes back: its command, its address, its data and its working counter.
 pub type Back = (Command, u32, &'static [u8], u16);
 
-/// A frame: its serial, the number of bytes of its datagrams, the bytes after its head, and how many zeros
-/// follow them.
+/// A frame: its serial, the number of bytes of its datagrams, the bytes after its head, and the number of zeros after them.
 pub type Text = (u16, u8, &'static [u8], usize);
 
 /// An event of a row.
@@ -48,7 +47,7 @@ pub enum Asked {
     Clear(u16),
 }
 
-/// What a row's event is to be answered.
+/// The expected answer to a row's event.
 #[derive(Clone, Copy)]
 pub enum Wanted {
     /// The epoch, the recut spans and the moved blocks.
@@ -69,7 +68,7 @@ pub enum Wanted {
     Refused(CoreFault),
 }
 
-/// An event, and what it is to be answered.
+/// An event, and its expected answer.
 pub type Row = (Asked, Wanted);
 
 /// The 16 bytes before a frame's datagrams: six of 0xff, the source with the serial, the EtherType, and the
@@ -81,7 +80,7 @@ fn head_of(serial: u16, size: u8) -> [u8; 16] {
     ]
 }
 
-/// Whether bytes are zeros.
+/// True if all these bytes are 0.
 fn are_zeros(bytes: &[u8]) -> bool {
     for byte in bytes {
         if *byte != 0 {
@@ -91,7 +90,7 @@ fn are_zeros(bytes: &[u8]) -> bool {
     true
 }
 
-/// Whether bytes are these ones and so many zeros after them.
+/// True if the bytes are these, with this many zeros after them.
 fn are_padded(bytes: &[u8], front: &[u8], zeros: usize) -> bool {
     if bytes.len() != front.len().saturating_add(zeros) {
         return false;
@@ -100,7 +99,7 @@ fn are_padded(bytes: &[u8], front: &[u8], zeros: usize) -> bool {
     own == front && are_zeros(after_it)
 }
 
-/// Whether bytes are a frame's.
+/// True if the bytes are this frame's.
 pub fn is_text(bytes: &[u8], text: &Text) -> bool {
     if bytes.len() < 16 {
         return false;
@@ -109,7 +108,7 @@ pub fn is_text(bytes: &[u8], text: &Text) -> bool {
     head == head_of(text.0, text.1).as_slice() && are_padded(after_it, text.2, text.3)
 }
 
-/// Whether frames are these.
+/// True if the frames are these, in order.
 pub fn are_texts(frames: &[Items<u8>], texts: &[Text]) -> bool {
     if frames.len() != texts.len() {
         return false;
@@ -122,7 +121,7 @@ pub fn are_texts(frames: &[Items<u8>], texts: &[Text]) -> bool {
     true
 }
 
-/// Whether a slot has these bytes, or none.
+/// True if a slot has these bytes, or none.
 fn is_slot(slot: &Option<Items<u8>>, wanted: &Option<&'static [u8]>) -> bool {
     match (slot, wanted) {
         (Some(bytes), Some(other)) => bytes.as_slice() == *other,
@@ -131,7 +130,7 @@ fn is_slot(slot: &Option<Items<u8>>, wanted: &Option<&'static [u8]>) -> bool {
     }
 }
 
-/// Whether slots are these.
+/// True if the slots are these, in order.
 fn are_slots(slots: &[Option<Items<u8>>], wanted: &[Option<&'static [u8]>]) -> bool {
     if slots.len() != wanted.len() {
         return false;
@@ -144,7 +143,7 @@ fn are_slots(slots: &[Option<Items<u8>>], wanted: &[Option<&'static [u8]>]) -> b
     true
 }
 
-/// Whether an answer is that which a row wants.
+/// True if an answer is the expected one.
 pub fn is_wanted(answer: &Answer, wanted: &Wanted) -> bool {
     match (answer, wanted) {
         (
@@ -174,7 +173,7 @@ pub fn is_wanted(answer: &Answer, wanted: &Wanted) -> bool {
     }
 }
 
-/// The edit that a row's event is, if it is one.
+/// The edit of a row's event. None if the event is no edit, or declares a group whose text cannot be read.
 fn edit_of(alloc: Global, asked: Asked) -> Result<Option<Edit>, AllocError> {
     let edit = match asked {
         Asked::Connect(alias) => Edit::Connect(alias),
@@ -198,7 +197,7 @@ fn edit_of(alloc: Global, asked: Asked) -> Result<Option<Edit>, AllocError> {
     Ok(Some(edit))
 }
 
-/// The answer to a row's event that is no edit; that nothing is owed, to an edit.
+/// The answer to a row's event that is no edit. `NothingOwed` for an edit.
 fn other_answer(driven: &mut Driven, alloc: Global, asked: Asked) -> Result<Answer, AllocError> {
     match asked {
         Asked::Post(task, epoch, bytes) => driven.put(alloc, Event::Post { task, epoch, bytes }),
@@ -231,8 +230,7 @@ pub fn answer(driven: &mut Driven, alloc: Global, asked: Asked) -> Result<Answer
     }
 }
 
-/// Whether a row's edit is reported as the row wants where it is prepared, and leaves the core as it
-/// was.
+/// True if a row's edit, when it is prepared, has the expected report and leaves the core as it was.
 fn is_prepared(driven: &mut Driven, alloc: Global, row: &Row) -> Result<bool, AllocError> {
     let Some(edit) = edit_of(alloc, row.0)? else {
         return Ok(false);
@@ -243,7 +241,7 @@ fn is_prepared(driven: &mut Driven, alloc: Global, row: &Row) -> Result<bool, Al
     }
 }
 
-/// The number, from 0, of the first row whose edit isn't prepared so, none where all are.
+/// The number, from 0, of the first row whose edit is not prepared so. None if there is none.
 pub fn first_unprepared(
     driven: &mut Driven,
     alloc: Global,
@@ -259,13 +257,12 @@ pub fn first_unprepared(
     Ok(None)
 }
 
-/// Whether an event is answered as its row wants.
+/// True if an event has its row's answer.
 pub fn holds(driven: &mut Driven, alloc: Global, row: &Row) -> Result<bool, AllocError> {
     Ok(is_wanted(&answer(driven, alloc, row.0)?, &row.1))
 }
 
-/// The number, from 0, of the first row whose event has another answer than it wants, none where all have
-/// theirs.
+/// The number, from 0, of the first row whose event has another answer. None if there is none.
 pub fn first_wrong(
     driven: &mut Driven,
     alloc: Global,

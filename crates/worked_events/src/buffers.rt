@@ -1,5 +1,5 @@
-//! Memory that a core uses again: the buffers of good answers that come back hold the data of later answers, and 128 are kept; a
-//! list that is handed in holds the next changes; and one list holds the frames of each sending.
+//! Memory that a core uses again. The buffers of good answers that come back hold the data of later answers, and 128 are kept.
+//! A list that is handed in holds the next changes. One list holds the frames of each sending.
 use crate::driven::Driven;
 use crate::lines::{opened_axis, write_all};
 use hc_events::answer::{Answer, Outcome};
@@ -42,7 +42,7 @@ fn exchange(driven: &mut Driven, alloc: Global) -> Result<bool, AllocError> {
     Ok(true)
 }
 
-/// How many of the changes hold their data in a buffer that came back.
+/// The number of changes that hold their data in a buffer that came back.
 fn returned_among(changes: Vec<Change>) -> usize {
     let mut returned = 0_usize;
     for change in changes {
@@ -55,7 +55,8 @@ fn returned_among(changes: Vec<Change>) -> usize {
     returned
 }
 
-/// How many of so many good answers, one after another, hold their data in a buffer that came back. None if one was not good.
+/// Exchanges the task `answers` times, and returns the number of answers whose data are in a buffer that came back. None if an
+/// answer was not good.
 fn in_returned_buffers(
     driven: &mut Driven,
     alloc: Global,
@@ -69,7 +70,7 @@ fn in_returned_buffers(
     Ok(Some(returned_among(driven.core.take_changes(alloc))))
 }
 
-/// Hands the core so many buffers.
+/// Hands the core this many buffers.
 fn give_back(driven: &mut Driven, alloc: Global, buffers: usize) -> Result<(), AllocError> {
     for _ in 0..buffers {
         let buffer = Vec::with_capacity(alloc, RETURNED)?;
@@ -78,8 +79,8 @@ fn give_back(driven: &mut Driven, alloc: Global, buffers: usize) -> Result<(), A
     Ok(())
 }
 
-/// An answer takes memory of its own if no buffer came back. Of 130 buffers that come back 128 are kept, and each holds the data
-/// of one answer.
+/// An answer allocates its own memory if no buffer came back. Of 130 buffers that come back 128 are kept, and each holds the
+/// data of one answer.
 #[test]
 fn answers_use_the_buffers_that_came_back(rt: HostRuntime) -> Result<(), Fail> {
     let alloc = rt.alloc();
@@ -112,7 +113,7 @@ fn changes_use_the_list_that_was_handed_in(rt: HostRuntime) -> Result<(), Fail> 
     Ok(())
 }
 
-/// Sends the axis's task so many times, and returns whether each sending was answered with its frame.
+/// Sends the axis's task `times` times. True if each sending was answered with its frame.
 fn send_often(driven: &mut Driven, alloc: Global, times: usize) -> Result<bool, AllocError> {
     for _ in 0..times {
         if !matches!(driven.put(alloc, Event::SendTasks(&[0]))?, Answer::Sent(_)) {

@@ -16,24 +16,23 @@ use std::test::Fail;
 /// The bytes of the answer: 16 of the frame's head, 10 of the datagram's, 3 of data, and 2 of the counter.
 const SIZE: usize = 31;
 
-/// What a changed answer is.
+/// The meaning of a changed answer.
 #[derive(Clone, Copy, PartialEq, Eq)]
 enum Meaning {
-    /// It can't be read.
+    /// The frame cannot be read.
     Refused(CoreFault),
-    /// It answers no sending.
+    /// The frame answers no sending.
     Stale,
-    /// It is the answer, with its data.
+    /// The frame is the answer, with its data.
     Inputs,
-    /// It is the answer, with this counter.
+    /// The frame is the answer, with this counter.
     WrongCount(u16),
 }
 
-/// What the answer is where a byte has another value, by the fields of the frame: the destination, the source's first
-/// byte and the interrupt are anyone's; of the source's other bytes the last one is also the index, which has to be
-/// the same; a header of another length doesn't fit the bytes that came, unless its type is another one first; a
-/// command that there is, and an address, are another sending's; the length has a bit for a frame that circulates and
-/// one that promises more.
+/// The meaning of an answer with another value of a byte, by the fields of the frame. The destination, the source's first byte
+/// and the interrupt are free. The last of the source's bytes is also the index, so they differ. Another length does not fit
+/// the bytes that came, and another type is found before that. Another known command, and another address, are another
+/// sending's. Two bits of the length say that the frame circulates, and that more follows.
 fn meaning_of(at: usize, value: u8) -> Meaning {
     match at {
         0..=6 | 24 | 25 => Meaning::Inputs,
@@ -53,12 +52,12 @@ fn meaning_of(at: usize, value: u8) -> Meaning {
     }
 }
 
-/// Whether a byte is one whose other values leave an answer.
+/// True if each other value of this byte leaves an answer to the sending.
 fn leaves_an_answer(at: usize) -> bool {
     matches!(at, 0..=6 | 24..=30)
 }
 
-/// The task is posted as 2, and sent with the serial 4.
+/// Task 0 gets the outputs 2, and is sent with the serial 4.
 const SENT: &[Row] = &[
     (Post(0, 0, &[2]), Wanted::Posted),
     (
@@ -67,10 +66,10 @@ const SENT: &[Row] = &[
     ),
 ];
 
-/// What leads to the awaited answer.
+/// The stages that lead to the awaited answer.
 const AWAITING: &[Stage] = &[Blocks(4), Rows(SENT)];
 
-/// Whether an answer is of one outcome.
+/// True if an answer has exactly this outcome.
 fn is_one(answer: &Answer, outcome: Outcome) -> bool {
     match answer {
         Answer::Answered(outcomes) => outcomes.as_slice() == [outcome].as_slice(),
@@ -78,7 +77,7 @@ fn is_one(answer: &Answer, outcome: Outcome) -> bool {
     }
 }
 
-/// Whether the answer to a frame is that which is reported.
+/// True if the answer to a frame has this meaning.
 fn is_answered_so(answer: &Answer, meaning: Meaning) -> bool {
     match meaning {
         Meaning::Refused(fault) => matches!(answer, Answer::Refused(found) if *found == fault),
@@ -88,7 +87,7 @@ fn is_answered_so(answer: &Answer, meaning: Meaning) -> bool {
     }
 }
 
-/// Whether a slot has these data, or none.
+/// True if a slot has these data, or none.
 fn has(slot: &Option<Items<u8>>, data: Option<&[u8]>) -> bool {
     match (slot, data) {
         (Some(bytes), Some(data)) => bytes.as_slice() == data,
@@ -97,7 +96,7 @@ fn has(slot: &Option<Items<u8>>, data: Option<&[u8]>) -> bool {
     }
 }
 
-/// Whether an answer is an image of one slot with these data, or none.
+/// True if an answer is an image of one slot with these data, or none.
 fn shows(answer: &Answer, data: Option<&[u8]>) -> bool {
     match answer {
         Answer::Image { epoch: _, slots } => match slots.as_slice() {
@@ -108,12 +107,12 @@ fn shows(answer: &Answer, data: Option<&[u8]>) -> bool {
     }
 }
 
-/// Whether task 0 reads these data, or none.
+/// True if task 0 reads these data, or none.
 fn reads(driven: &mut Driven, alloc: Global, data: Option<&[u8]>) -> Result<bool, AllocError> {
     Ok(shows(&driven.put(alloc, Event::Read(0))?, data))
 }
 
-/// Whether the answer to a frame that arrives is that which is reported.
+/// Hands in a frame. True if the answer to it has this meaning.
 fn is_answered(
     driven: &mut Driven,
     alloc: Global,
@@ -123,12 +122,12 @@ fn is_answered(
     Ok(is_answered_so(&driven.put(alloc, Event::Arrive(frame))?, meaning))
 }
 
-/// Whether nothing is read, nothing is owed, and the next serial is 5.
+/// True if nothing is read, no block is owed, and the next serial is 5.
 fn awaits_still(driven: &mut Driven, alloc: Global) -> Result<bool, AllocError> {
     Ok(reads(driven, alloc, None)? && driven.core.owed() == 0 && driven.core.next_serial() == 5)
 }
 
-/// Whether a frame that is no answer is answered as given, and leaves all as it was.
+/// Hands in a frame that is no answer. True if it has this meaning, and leaves the core as it was.
 fn is_left_out(
     driven: &mut Driven,
     alloc: Global,
@@ -158,7 +157,7 @@ fn changed(serial: u64, at: usize, value: u8) -> [u8; SIZE] {
     frame
 }
 
-/// Whether an epoch begins by a remap that changes nothing.
+/// Remaps the inputs to their present PDO. True if an epoch begins, and no span is recut and no block moves.
 fn is_edited(driven: &mut Driven, alloc: Global) -> Result<bool, AllocError> {
     let edited = answer(driven, alloc, Remap(1001, 1, &[0x1a00]))?;
     Ok(matches!(
@@ -171,13 +170,13 @@ fn is_edited(driven: &mut Driven, alloc: Global) -> Result<bool, AllocError> {
     ))
 }
 
-/// Whether an epoch begins, where nothing was read, and the task is sent in it.
+/// Begins an epoch, in which nothing is read yet, and sends the task. True if both succeed.
 fn begins_anew(driven: &mut Driven, alloc: Global) -> Result<bool, AllocError> {
     Ok(is_edited(driven, alloc)? && is_sent(driven, alloc)?)
 }
 
-/// Whether a frame that is the answer is answered as given, and its data are read then where its counter is
-/// good.
+/// Hands in a frame that is the answer. True if it has this meaning, and its data are read then if its counter is good, and
+/// none otherwise.
 fn is_taken(
     driven: &mut Driven,
     alloc: Global,
@@ -191,8 +190,8 @@ fn is_taken(
     Ok(is_answered(driven, alloc, frame, meaning)? && reads(driven, alloc, data)?)
 }
 
-/// Whether the answer with another value of a byte is answered as given, and leaves what it should: one that
-/// answers nothing with the serial 4, one that answers with a serial and an epoch of its own.
+/// True if the answer with another value of a byte has its meaning. A frame that answers nothing has the serial 4, and leaves
+/// the core as it was. One that answers has a serial and an epoch of its own.
 fn holds_of(driven: &mut Driven, alloc: Global, at: usize, value: u8) -> Result<bool, AllocError> {
     if !leaves_an_answer(at) {
         return is_left_out(driven, alloc, &changed(4, at, value), meaning_of(at, value));
@@ -209,7 +208,7 @@ fn holds_of(driven: &mut Driven, alloc: Global, at: usize, value: u8) -> Result<
     )
 }
 
-/// How many of a byte's other values hold.
+/// The number of a byte's other values that hold.
 fn held(driven: &mut Driven, alloc: Global, at: usize, old: u8) -> Result<u32, AllocError> {
     let mut held = 0_u32;
     for value in 0..=255_u8 {
@@ -220,7 +219,8 @@ fn held(driven: &mut Driven, alloc: Global, at: usize, old: u8) -> Result<u32, A
     Ok(held)
 }
 
-/// Whether the unchanged frame is the answer, or came too late, since an epoch began.
+/// True if the unchanged frame has its meaning after all other values: it is the answer, or it is stale if an epoch began
+/// since.
 fn ends_well(driven: &mut Driven, alloc: Global, at: usize) -> Result<bool, AllocError> {
     let meaning = if leaves_an_answer(at) {
         Meaning::Stale
@@ -230,8 +230,8 @@ fn ends_well(driven: &mut Driven, alloc: Global, at: usize) -> Result<bool, Allo
     is_answered(driven, alloc, ARRIVAL, meaning)
 }
 
-/// How many of a byte's other values hold on a line that awaits the answer; none where it doesn't, or the unchanged
-/// frame after them all is something else than it should.
+/// The number of a byte's other values that hold on a line that awaits the answer. It is 0 if the line does not await it, or
+/// the unchanged frame after them all has another meaning.
 fn held_of(driven: &mut Driven, alloc: Global, at: usize, old: u8) -> Result<u32, AllocError> {
     if first_wrong_at(driven, alloc, AWAITING)?.is_some() {
         return Ok(0);
@@ -244,13 +244,13 @@ fn held_of(driven: &mut Driven, alloc: Global, at: usize, old: u8) -> Result<u32
     })
 }
 
-/// How many of a byte's other values hold on an axis at its opening that awaits the answer.
+/// The number of a byte's other values that hold on an axis, from its opening on.
 fn held_at(alloc: Global, at: usize, old: u8) -> Result<u32, Fail> {
     let mut driven = opened_axis(alloc)?;
     Ok(held_of(&mut driven, alloc, at, old)?)
 }
 
-/// The first byte where not each of 255 other values holds; none where all do.
+/// The first byte with fewer than 255 other values that hold. None if there is none.
 fn first_unheld(alloc: Global) -> Result<Option<usize>, Fail> {
     let mut at = 0_usize;
     for byte in ARRIVAL {
@@ -262,7 +262,7 @@ fn first_unheld(alloc: Global) -> Result<Option<usize>, Fail> {
     Ok(None)
 }
 
-/// 31 bytes with 255 other values each are 7,905 frames.
+/// Each of the 7,905 answers with another value in one of 31 bytes has its meaning.
 #[test]
 fn every_changed_answer(rt: HostRuntime) -> Result<(), Fail> {
     assert_eq!(rt; ARRIVAL.len(), SIZE);
@@ -270,8 +270,7 @@ fn every_changed_answer(rt: HostRuntime) -> Result<(), Fail> {
     Ok(())
 }
 
-/// Why an answer can't be read when only so many of its bytes came: the least datagram ends with the byte
-/// 27.
+/// The fault of an answer of which only `size` bytes came. The shortest datagram ends with the byte 27.
 fn cut_fault(size: usize) -> CoreFault {
     if size < 28 {
         CoreFault::Short
@@ -285,7 +284,7 @@ fn cut(size: usize) -> &'static [u8] {
     ARRIVAL.split_at(size.min(ARRIVAL.len())).0
 }
 
-/// Whether each cut of the awaited answer is refused and leaves all as it was, and the whole one is answered.
+/// True if each cut of the awaited answer is refused and leaves the core as it was, and the whole answer is taken afterwards.
 fn cuts_hold(driven: &mut Driven, alloc: Global) -> Result<bool, AllocError> {
     for size in 0..SIZE {
         let meaning = Meaning::Refused(cut_fault(size));
@@ -296,13 +295,13 @@ fn cuts_hold(driven: &mut Driven, alloc: Global) -> Result<bool, AllocError> {
     ends_well(driven, alloc, SIZE)
 }
 
-/// Whether they do on a line from its opening on.
+/// True if each cut is refused and the whole answer is taken, on a line from its opening on.
 fn cuts_hold_of(driven: &mut Driven, alloc: Global) -> Result<bool, AllocError> {
     let wrong = first_wrong_at(driven, alloc, AWAITING)?;
     Ok(wrong.is_none() && cuts_hold(driven, alloc)?)
 }
 
-/// Whether they do on an axis.
+/// True if each cut is refused and the whole answer is taken, on an axis from its opening on.
 fn cuts_hold_of_axis(alloc: Global) -> Result<bool, Fail> {
     let mut driven = opened_axis(alloc)?;
     Ok(cuts_hold_of(&mut driven, alloc)?)
@@ -315,7 +314,7 @@ fn every_cut_answer(rt: HostRuntime) -> Result<(), Fail> {
     Ok(())
 }
 
-/// Whether each cut of the answer is refused.
+/// True if each cut of the answer is refused.
 fn refuses_cuts(driven: &mut Driven, alloc: Global) -> Result<bool, AllocError> {
     for size in 0..SIZE {
         let meaning = Meaning::Refused(cut_fault(size));
@@ -326,7 +325,7 @@ fn refuses_cuts(driven: &mut Driven, alloc: Global) -> Result<bool, AllocError> 
     Ok(true)
 }
 
-/// Whether each answer with another value of a byte is refused that can't be read.
+/// True if each unreadable answer with another value of this byte is refused.
 fn refuses_at(driven: &mut Driven, alloc: Global, at: usize) -> Result<bool, AllocError> {
     for value in 0..=255_u8 {
         let meaning = meaning_of(at, value);
@@ -340,7 +339,7 @@ fn refuses_at(driven: &mut Driven, alloc: Global, at: usize) -> Result<bool, All
     Ok(true)
 }
 
-/// Whether every one of them is refused, and every cut.
+/// True if each unreadable answer is refused: those with another value of a byte, and the cuts.
 fn refuses_all(driven: &mut Driven, alloc: Global) -> Result<bool, AllocError> {
     for at in 0..SIZE {
         if !refuses_at(driven, alloc, at)? {
@@ -350,8 +349,8 @@ fn refuses_all(driven: &mut Driven, alloc: Global) -> Result<bool, AllocError> {
     refuses_cuts(driven, alloc)
 }
 
-/// The number of the first row that isn't answered as it wants, or before which one of the frames that can't be read
-/// isn't refused.
+/// The number of the first row that has another answer, or before which an unreadable frame is not refused. None if there is
+/// none.
 fn first_disturbed(
     driven: &mut Driven,
     alloc: Global,
@@ -367,7 +366,7 @@ fn first_disturbed(
     Ok(None)
 }
 
-/// The first row that disturbs a line with every block written.
+/// Writes every block of a line, and returns the first row that is disturbed then.
 fn first_disturbed_written(
     driven: &mut Driven,
     alloc: Global,
@@ -377,27 +376,27 @@ fn first_disturbed_written(
     first_disturbed(driven, alloc, rows)
 }
 
-/// The first row that disturbs an axis with every block written.
+/// The first row that is disturbed on an axis with every block written.
 fn first_disturbed_of(alloc: Global, rows: &[Row]) -> Result<Option<usize>, Fail> {
     let mut driven = opened_axis(alloc)?;
     Ok(first_disturbed_written(&mut driven, alloc, rows)?)
 }
 
-/// Frames that can't be read are refused between posts, sendings and answers, and change none of the answers.
+/// Frames that cannot be read are refused between posts, sendings and answers, and change none of the answers.
 #[test]
 fn refused_frames_come_between_answers(rt: HostRuntime) -> Result<(), Fail> {
     assert_eq!(rt; first_disturbed_of(rt.alloc(), POSTED)?, None);
     Ok(())
 }
 
-/// Frames that can't be read are refused between edits, and change none of the answers over three epochs.
+/// Frames that cannot be read are refused between edits, and change none of the answers over three epochs.
 #[test]
 fn refused_frames_come_between_edits(rt: HostRuntime) -> Result<(), Fail> {
     assert_eq!(rt; first_disturbed_of(rt.alloc(), THREE_EPOCHS)?, None);
     Ok(())
 }
 
-/// Whether 257 frames are sent with the frames that can't be read before each of them.
+/// Sends 257 frames, with all unreadable frames before each of them. True if these are refused, and each sending is accepted.
 fn sends_disturbed(driven: &mut Driven, alloc: Global) -> Result<bool, AllocError> {
     for _ in 0..257 {
         if !refuses_all(driven, alloc)? || !is_sent(driven, alloc)? {
@@ -407,7 +406,7 @@ fn sends_disturbed(driven: &mut Driven, alloc: Global) -> Result<bool, AllocErro
     Ok(true)
 }
 
-/// Whether they are on a line with every block written, and the last one alone is answered then.
+/// Writes every block of a line, and sends the disturbed frames. True if they are sent, and only the last one is answered then.
 fn last_is_answered(driven: &mut Driven, alloc: Global) -> Result<bool, AllocError> {
     write_all(driven, alloc)?;
     let sent = sends_disturbed(driven, alloc)?;
@@ -420,7 +419,7 @@ fn last_disturbed_is_answered(alloc: Global) -> Result<bool, Fail> {
     Ok(last_is_answered(&mut driven, alloc)?)
 }
 
-/// Frames that can't be read are refused between many sendings, and the last sending is still answered.
+/// Frames that cannot be read are refused between many sendings, and the last sending is still answered.
 #[test]
 fn refused_frames_come_between_sendings(rt: HostRuntime) -> Result<(), Fail> {
     assert!(rt; last_disturbed_is_answered(rt.alloc())?);

@@ -21,23 +21,23 @@ const THREE: &[Back] = &[
     (Fpwr, 0x0610_03e9, &[0; 16], 1),
 ];
 
-/// What a changed answer is.
+/// The meaning of a changed answer.
 #[derive(Clone, Copy, PartialEq, Eq)]
 enum Meaning {
-    /// It can't be read, for this fault.
+    /// The frame cannot be read, for this fault.
     Refused(CoreFault),
-    /// It can't be read, or answers no sending: with another length the bytes after it have other meanings.
+    /// The frame cannot be read, or answers no sending: with another length the bytes after it have other meanings.
     LeftOut,
-    /// It answers no sending.
+    /// The frame answers no sending.
     Stale,
-    /// It is the answer, and each slave took its block.
+    /// The frame is the answer, and each slave took its block.
     AllDone,
-    /// It is the answer, and the block with this number, from 0, wasn't taken.
+    /// The frame is the answer, and the block with this number, from 0, was not taken.
     OneMissed(usize),
 }
 
-/// What the answer is where a byte of a datagram has another value, by the fields of the datagram: command, index, four
-/// bytes of address, two of length, two of interrupt, data, two of working counter.
+/// The meaning of a datagram with another value of a byte, by its fields: command, index, four bytes of address, two of length,
+/// two of interrupt, data, two of working counter.
 fn field_answered(datagram: usize, at: usize, data: usize, value: u8) -> Meaning {
     match at {
         0 if value == 1 || value == 2 || value == 12 => Meaning::Stale,
@@ -51,9 +51,9 @@ fn field_answered(datagram: usize, at: usize, data: usize, value: u8) -> Meaning
     }
 }
 
-/// The meaning of a changed byte of the frame: destination and the source's first byte are anyone's; the last of the source's
-/// other bytes is also each datagram's index; then come EtherType, length and type. A length of 28 or 48 ends with the first or
-/// the second datagram, which promises that another follows.
+/// The meaning of an answer with another value of a byte of the frame. The destination and the source's first byte are free.
+/// The last of the source's other bytes is also each datagram's index. EtherType, length and type come then. A length of 28 or
+/// 48 ends with the first or the second datagram, which promises that another follows.
 fn meaning_of(at: usize, value: u8) -> Meaning {
     match at {
         0..=6 => Meaning::AllDone,
@@ -70,7 +70,7 @@ fn meaning_of(at: usize, value: u8) -> Meaning {
     }
 }
 
-/// Whether the answer has these outcomes.
+/// True if the answer has these outcomes.
 fn is_written(answer: &Answer, wanted: &[Outcome]) -> bool {
     match answer {
         Answer::Written(outcomes) => outcomes.as_slice() == wanted,
@@ -78,7 +78,7 @@ fn is_written(answer: &Answer, wanted: &[Outcome]) -> bool {
     }
 }
 
-/// The outcomes where the block with a number wasn't taken.
+/// The outcomes if the block with this number was not taken.
 fn with_missed(number: usize) -> [Outcome; 3] {
     match number {
         0 => [Missed, Done, Done],
@@ -87,7 +87,7 @@ fn with_missed(number: usize) -> [Outcome; 3] {
     }
 }
 
-/// Whether the answer to a frame is that which is reported.
+/// True if the answer to a frame has this meaning.
 fn is_answered_so(answer: &Answer, meaning: Meaning) -> bool {
     match meaning {
         Meaning::Refused(fault) => matches!(answer, Answer::Refused(found) if *found == fault),
@@ -98,7 +98,7 @@ fn is_answered_so(answer: &Answer, meaning: Meaning) -> bool {
     }
 }
 
-/// How many blocks are owed after it.
+/// The number of blocks that are owed after an answer with this meaning.
 fn owed_after(meaning: Meaning) -> u32 {
     match meaning {
         Meaning::AllDone => 0,
@@ -107,13 +107,13 @@ fn owed_after(meaning: Meaning) -> u32 {
     }
 }
 
-/// Whether an answer ends what is awaited.
+/// True if a frame with this meaning is the awaited answer.
 fn is_answer(meaning: Meaning) -> bool {
     matches!(meaning, Meaning::AllDone | Meaning::OneMissed(_))
 }
 
-/// The axis is forgotten, its first block is written and answered, and the other three are sent in a frame with the serial
-/// that is answered; none where something of this isn't so.
+/// Forgets the axis, writes its first block, and sends the other three in one frame. Returns the frame's serial. None if one of
+/// these calls has another answer.
 fn sent_three(driven: &mut Driven, alloc: Global) -> Result<Option<u64>, AllocError> {
     let forgotten = driven.put(alloc, Event::Forget(1001))?;
     if !matches!(forgotten, Answer::Forgotten) || !write_one(driven, alloc)? {
@@ -126,7 +126,7 @@ fn sent_three(driven: &mut Driven, alloc: Global) -> Result<Option<u64>, AllocEr
     })
 }
 
-/// The answer to a serial with another value of a byte; the answer itself where it has no such byte.
+/// The answer to a serial, with another value of a byte. The answer itself if it has no such byte.
 fn changed(alloc: Global, serial: u64, at: usize, value: u8) -> Result<Vec<u8>, AllocError> {
     let mut frame = back(alloc, serial, THREE)?;
     if at < frame.len() {
@@ -135,8 +135,7 @@ fn changed(alloc: Global, serial: u64, at: usize, value: u8) -> Result<Vec<u8>, 
     Ok(frame)
 }
 
-/// Whether the answer with another value of a byte is answered as given, and leaves as many blocks owed as it
-/// should.
+/// Hands in the answer with another value of a byte. True if it has its meaning, and leaves the right number of blocks owed.
 fn holds_of(
     driven: &mut Driven,
     alloc: Global,
@@ -150,7 +149,7 @@ fn holds_of(
     Ok(is_answered_so(&answer, meaning) && driven.core.owed() == owed_after(meaning))
 }
 
-/// The serial of a frame that waits for its answer: the one that was sent, unless it was answered; then another is sent.
+/// The serial of a frame that waits for its answer. It is the given one, or that of a new frame if none is given.
 fn awaited(
     driven: &mut Driven,
     alloc: Global,
@@ -162,7 +161,7 @@ fn awaited(
     }
 }
 
-/// How many of a byte's other values hold.
+/// The number of a byte's other values that hold.
 fn held(driven: &mut Driven, alloc: Global, at: usize, old: u8) -> Result<u32, AllocError> {
     let mut held = 0_u32;
     let mut sent = None;
@@ -192,15 +191,15 @@ fn byte_of(frame: &[u8], at: usize) -> u8 {
     }
 }
 
-/// Whether each other value of a byte holds, on an axis that just opened. Bytes of the serial and the index are the serial
-/// 1's: the first block has the serial 0.
+/// True if each other value of a byte holds, on an axis from its opening on. The unchanged bytes of the serial and the index
+/// are those of serial 1, since the first block has serial 0.
 fn holds_at(alloc: Global, at: usize) -> Result<bool, Fail> {
     let mut driven = opened_axis(alloc)?;
     let old = byte_of(back(alloc, 1, THREE)?.as_slice(), at);
     Ok(held(&mut driven, alloc, at, old)? == 255)
 }
 
-/// The first byte where not each of 255 other values holds; none where all do.
+/// The first byte with fewer than 255 other values that hold. None if there is none.
 fn first_unheld(alloc: Global) -> Result<Option<usize>, Fail> {
     for at in 0..SIZE {
         if !holds_at(alloc, at)? {
@@ -210,7 +209,7 @@ fn first_unheld(alloc: Global) -> Result<Option<usize>, Fail> {
     Ok(None)
 }
 
-/// 92 bytes with 255 other values each are 23,460 frames.
+/// Each of the 23,460 answers with another value in one of 92 bytes has its meaning.
 #[test]
 fn every_changed_answer_to_writes(rt: HostRuntime) -> Result<(), Fail> {
     assert_eq!(rt; back(rt.alloc(), 1, THREE)?.len(), SIZE);

@@ -21,7 +21,7 @@ group = [
 ]
 "#;
 
-/// Another one with the axis' station address.
+/// Another group, with a slave at the axis' station address.
 const TWIN: &str = r#"
 group = [
   { alias = 6, slave = [
@@ -30,9 +30,9 @@ group = [
 ]
 "#;
 
-/// The frame that is under way is answered too late, since the epoch is another, and nothing was read in that. The
-/// posted value is sent on, and no block is owed: the axis is known as before. Then the tool comes: its two blocks are
-/// owed, and the FMMU block of the axis' input, which gives way by a byte.
+/// The frame that is under way is answered too late, since another epoch has begun, in which nothing was read. The posted value
+/// is sent on, and no block is owed: the axis is known as before. Then the tool is connected: its two blocks are owed, and the
+/// FMMU block of the axis' input, which gives way by a byte.
 const DECLARED: &[Row] = &[
     (Post(0, 0, &[2]), Wanted::Posted),
     (

@@ -13,7 +13,7 @@ use hc_records::edit::Edit;
 use hc_records::faults::EditFault;
 use std::alloc::{AllocError, Global};
 
-/// Whether tasks can be sent together: at least one, at most eight, and none twice.
+/// True if tasks can be sent together: at least one, at most eight, and none twice.
 pub fn are_sent_together(tasks: &[u8]) -> bool
     ensures { IsTrue result → AreSentTogether tasks.now }
 {
@@ -23,7 +23,7 @@ pub fn are_sent_together(tasks: &[u8]) -> bool
     }
 }
 
-/// Whether an event is one that a caller may ask of a core.
+/// True if a caller may ask the event of a core.
 fn is_asked(event: Event<'_>) -> bool
     ensures { IsTrue result → IsAsked (step_of event.entry) }
 {
@@ -33,19 +33,19 @@ fn is_asked(event: Event<'_>) -> bool
     }
 }
 
-/// What a core answers; of it and of the core nothing more is known here.
+/// The answer of a core to an event. The call states nothing of the answer, or of the core.
 fn served(core: &mut Core, alloc: Global, event: Event<'_>) -> Answer
     requires { IsAsked (step_of event) }
 {
     core.step(alloc, event)
 }
 
-/// What is left by events: the owed blocks, the next serial and the epoch.
+/// The observable state of a core: the owed blocks, the next serial and the epoch.
 fn left_by(core: &Core) -> (u32, u64, u32) {
     (core.owed(), core.next_serial(), core.plan().epoch())
 }
 
-/// The core's answer. Where it wants memory it is asked once more, if it is left as it was.
+/// The answer of a core to an event. If an allocation failed and left the core as it was, the event is asked once more.
 fn served_or_again(core: &mut Core, alloc: Global, event: Event<'_>) -> Answer
     requires { IsAsked (step_of event) }
 {
@@ -57,7 +57,8 @@ fn served_or_again(core: &mut Core, alloc: Global, event: Event<'_>) -> Answer
     answer
 }
 
-/// What an edit would be answered, by its preparing; none where it names another number of blocks than it moves.
+/// The answer that an edit would have, by its preparing. None if the prepared edit has another number of blocks than its report
+/// says.
 fn answered_before(
     core: &mut Core,
     alloc: Global,
@@ -75,15 +76,15 @@ fn answered_before(
     }))
 }
 
-/// A core.
+/// A core to which events are put.
 #[derive(Drop)]
 pub struct Driven {
     pub core: Core,
 }
 
 impl Driven {
-    /// The answer to the next event. `Memory` where a growth was refused twice, and for an event that may not be
-    /// asked of a core.
+    /// The answer to the next event. Fails if an allocation failed for the repeated event too, or if the event may not be asked
+    /// of a core.
     pub fn put(&mut self, alloc: Global, event: Event<'_>) -> Result<Answer, AllocError> {
         if !is_asked(event) {
             return Err(AllocError);
@@ -95,8 +96,8 @@ impl Driven {
         Ok(answer)
     }
 
-    /// What an edit would be answered, if its preparing leaves the core as it was. `Memory` where a growth was
-    /// refused.
+    /// The answer that an edit would have. None if its preparing changes the core, or its blocks and its report differ. Fails
+    /// if an allocation failed.
     pub fn prepared(&mut self, alloc: Global, edit: &Edit) -> Result<Option<Answer>, AllocError> {
         let left = left_by(&self.core);
         let answer = match answered_before(&mut self.core, alloc, edit) {

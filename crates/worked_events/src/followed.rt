@@ -18,7 +18,7 @@ use hc_records::limits::TASKS;
 use std::alloc::{AllocError, Global};
 use std::test::Fail;
 
-/// Whether a copy has just the data of a task's slots.
+/// True if a copy has exactly the data of a task's slots.
 fn has_slots(copy: &Shown, task: u8, slots: &[Option<Items<u8>>]) -> bool {
     for (datagram, slot) in (0..16_u8).zip(slots) {
         let same = match (slot, copy.data(task, datagram)) {
@@ -33,7 +33,7 @@ fn has_slots(copy: &Shown, task: u8, slots: &[Option<Items<u8>>]) -> bool {
     true
 }
 
-/// Whether it shows what the core answers to a task's read.
+/// True if a copy shows the core's answer to a task's read.
 fn shows_task(copy: &Shown, core: &Core, alloc: Global, task: u8) -> Result<bool, AllocError> {
     let Answer::Image { epoch, slots } = core.read(alloc, task)? else {
         return Ok(false);
@@ -45,7 +45,7 @@ fn shows_task(copy: &Shown, core: &Core, alloc: Global, task: u8) -> Result<bool
     )
 }
 
-/// Whether it shows what the core answers to each task's read.
+/// True if a copy shows the core's answer to each task's read.
 fn shows_all(copy: &Shown, core: &Core, alloc: Global) -> Result<bool, AllocError> {
     for task in 0..TASKS {
         if !shows_task(copy, core, alloc, task)? {
@@ -55,7 +55,7 @@ fn shows_all(copy: &Shown, core: &Core, alloc: Global) -> Result<bool, AllocErro
     Ok(true)
 }
 
-/// Whether it does once it has taken in what changed since it was looked at last.
+/// Takes the changes since the last taking into the copy. True if it shows the core's answers then.
 fn follows(copy: &mut Shown, core: &mut Core, alloc: Global) -> Result<bool, AllocError> {
     for change in core.take_changes(alloc) {
         copy.take_in(&change)?;
@@ -63,8 +63,7 @@ fn follows(copy: &mut Shown, core: &mut Core, alloc: Global) -> Result<bool, All
     shows_all(copy, core, alloc)
 }
 
-/// The number of the first row after which the copy shows something else, or whose answer isn't as it should be;
-/// none where all are well.
+/// The number of the first row that has another answer, or after which the copy differs from the core. None if there is none.
 fn first_lost(
     driven: &mut Driven,
     copy: &mut Shown,
@@ -81,7 +80,7 @@ fn first_lost(
     Ok(None)
 }
 
-/// The first row of a stage that the copy loses; its rows are followed one by one.
+/// The first row of a stage that the copy loses. The rows are followed one by one.
 fn first_lost_in(
     driven: &mut Driven,
     copy: &mut Shown,
@@ -99,7 +98,7 @@ fn first_lost_in(
     })
 }
 
-/// Where it is that stages aren't followed first; none where all are.
+/// The first stage that is not followed, and the row in it. None if all are.
 fn first_lost_at(
     driven: &mut Driven,
     copy: &mut Shown,
@@ -129,14 +128,14 @@ fn plan_of(alloc: Global, text: &str) -> Result<Plan, AllocError>
     }
 }
 
-/// Where it is that a line isn't followed first from its opening on; none where it is to the end.
+/// The first stage of a line that is not followed, from its opening on, and the row in it. None if all are.
 fn first_lost_of(alloc: Global, case: &Case) -> Result<Option<At>, Fail> {
     let mut driven = opened(alloc, case.0)?;
     let mut copy = Shown::of(alloc, &plan_of(alloc, case.0)?)?;
     Ok(first_lost_at(&mut driven, &mut copy, alloc, case.1)?)
 }
 
-/// The number of the first line that isn't followed, and where; none where all are.
+/// The number of the first line that is not followed, with the stage and the row. None if all are.
 fn first_lost_case(alloc: Global, cases: &[Case]) -> Result<Option<(usize, At)>, Fail> {
     let mut number = 0_usize;
     for case in cases {
@@ -148,7 +147,7 @@ fn first_lost_case(alloc: Global, cases: &[Case]) -> Result<Option<(usize, At)>,
     Ok(None)
 }
 
-/// A copy that takes in the changes after each event shows what the core's reads answer.
+/// A copy that takes in the changes after each event shows the core's answers to reads.
 #[test]
 fn a_copy_shows_what_is_read(rt: HostRuntime) -> Result<(), Fail> {
     assert_eq!(rt; first_lost_case(rt.alloc(), values::LINES)?, None);

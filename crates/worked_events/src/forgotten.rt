@@ -56,13 +56,13 @@ const GOES_ON: &[Row] = &[
     (Post(0, 0, &[3]), Wanted::Posted),
 ];
 
-/// The tool comes; before, it isn't in the line.
+/// The tool is connected. Before that it is not in the line.
 const TOOL_COMES: &[Row] = &[
     (Forget(1002), Wanted::Refused(CoreFault::Absent)),
     (Connect(5), Wanted::Edited(1, 1, 3)),
 ];
 
-/// It goes and comes a second time, and its first block is sent.
+/// The tool goes and comes a second time, and its first block is sent.
 const TOOL_IS_WRITTEN: &[Row] = &[
     (Disconnect(5), Wanted::Edited(2, 1, 1)),
     (Connect(5), Wanted::Edited(3, 1, 3)),
@@ -105,7 +105,7 @@ const TOOL_IS_LATE: &[Row] = &[
     (Send(&[0]), Wanted::Refused(CoreFault::Unprogrammed(5))),
 ];
 
-/// All of them, each from its line's opening on.
+/// The lines of these rows, each from its opening on.
 const LINES: &[Case] = &[
     (
         AXIS,

@@ -58,7 +58,7 @@ const TWO_FRAMES: &[Row] = &[
     (Send(&[0]), Wanted::Refused(CoreFault::Unprogrammed(4))),
 ];
 
-/// Both are answered in the order in which they were sent, each once.
+/// The two frames are answered in the order in which they were sent, each once.
 const IN_ORDER: &[Row] = &[
     (Comes(0, FIRST_BACK), Wanted::WriteDone),
     (Comes(1, THREE_BACK), Wanted::Written(&[Done, Done, Done])),
@@ -67,7 +67,7 @@ const IN_ORDER: &[Row] = &[
     (Further, Wanted::Refused(CoreFault::NothingOwed)),
 ];
 
-/// The later one is answered first, and the earlier one counts all the same.
+/// The later of the two frames is answered first, and the earlier one counts all the same.
 const IN_REVERSE: &[Row] = &[
     (Comes(1, THREE_BACK), Wanted::Written(&[Done, Done, Done])),
     (Further, Wanted::Refused(CoreFault::UnderWay)),
@@ -158,7 +158,7 @@ const FORGOTTEN: &[Row] = &[
     ),
 ];
 
-/// All of them, each from the line's opening on.
+/// The lines of these rows, each from its opening on.
 const LINES: &[Case] = &[
     (AXIS, &[Rows(TWO_FRAMES), Rows(IN_ORDER)]),
     (AXIS, &[Rows(TWO_FRAMES), Rows(IN_REVERSE)]),
@@ -213,7 +213,7 @@ fn send_all(driven: &mut Driven, alloc: Global) -> Result<Vec<Vec<u8>>, AllocErr
     Ok(frames)
 }
 
-/// Answers the frames, the last one first, and says how many blocks were confirmed.
+/// Answers the frames, the last one first, and returns the number of confirmed blocks.
 fn answer_in_reverse(
     driven: &mut Driven,
     alloc: Global,

@@ -1,5 +1,5 @@
-//! What a caller knows that is handed a core, whatever was done with it before: a post in the plan's epoch, with as many
-//! bytes as the task's part has, is accepted. That is proved here of any core, and shown of one.
+//! A caller that is handed a core, whatever was done with it before. A post in the plan's epoch, with as many bytes as the
+//! task's part has, is accepted. That is proved here for any core, and tested with one.
 ghost use Rattle.std.specs.Prelude.{◌<◌, IsTrue};
 ghost use Rattle.hc_records.specs.declared.limits.TheConstants.{TASKS};
 
@@ -7,7 +7,7 @@ use crate::lines::{AXIS, opened};
 use hc_core::keeping::Core;
 use std::test::Fail;
 
-/// Whether bytes are posted, if they are as many as a task, 0 to 7, has output bytes.
+/// Posts bytes to a task, 0 to 7. True if the post is accepted, or the task has another number of output bytes.
 fn is_posted(core: &mut Core, task: u8, bytes: &[u8]) -> bool
     requires { task < TASKS }
     ensures { IsTrue result }

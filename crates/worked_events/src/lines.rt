@@ -26,7 +26,7 @@ slave = [
 ]
 "#;
 
-/// Why there is nothing to put events to.
+/// The fault of a line that is not opened.
 #[derive(Debug, Drop, Error)]
 pub enum Refused {
     /// The project was refused.
@@ -101,7 +101,7 @@ fn axis(alloc: Global) -> Result<Items<Group>, AllocError> {
     Ok(groups)
 }
 
-/// The axis at its opening, with no text to be read: for rows that need it often.
+/// The axis at its opening, without a text to be read, for rows that need it often.
 pub fn opened_axis(alloc: Global) -> Result<Driven, Fail> {
     let groups = axis(alloc)?;
     Ok(opened_project(alloc, Project::checked(alloc, groups))?)
@@ -110,7 +110,7 @@ pub fn opened_axis(alloc: Global) -> Result<Driven, Fail> {
 /// The bytes that a PDO of 64 entries holds.
 const PDO_BYTES: u16 = 512;
 
-/// Gaps that have so many bytes together.
+/// Gaps of this many bytes together.
 fn gaps(alloc: Global, bytes: u16) -> Result<Items<Entry>, AllocError> {
     let mut entries = Items::new(alloc);
     let mut left = bytes;
@@ -122,7 +122,7 @@ fn gaps(alloc: Global, bytes: u16) -> Result<Items<Entry>, AllocError> {
     Ok(entries)
 }
 
-/// An output area of a task with so many bytes.
+/// An output area of a task with this many bytes.
 fn wide_area(alloc: Global, task: u8, bytes: u16) -> Result<Area, AllocError> {
     let mut offered = Items::new(alloc);
     let mut assigned = Items::new(alloc);
@@ -144,8 +144,7 @@ fn wide_area(alloc: Global, task: u8, bytes: u16) -> Result<Area, AllocError> {
     })
 }
 
-/// The mandatory group of slaves with the stations from 1 on, each with an output area of a task with so
-/// many bytes.
+/// The mandatory group of slaves with the stations from 1 on, each with an output area of a task and this many bytes.
 fn wide(alloc: Global, areas: &[(u8, u16)]) -> Result<Items<Group>, AllocError> {
     let mut slaves = Items::new(alloc);
     let mut station = 0_u16;
@@ -180,7 +179,7 @@ fn answer_write(frame: &mut [u8]) {
     }
 }
 
-/// Writes the next owed block, and answers it; false where nothing is owed, or its answer isn't taken as the
+/// Writes the next owed block, and hands its answer in. False if no block is owed, or the answer is not taken as the
 /// confirmation.
 pub fn write_one(driven: &mut Driven, alloc: Global) -> Result<bool, AllocError> {
     let sent = driven.put(alloc, Event::SendWrite)?;
@@ -193,8 +192,8 @@ pub fn write_one(driven: &mut Driven, alloc: Global) -> Result<bool, AllocError>
     Ok(matches!(answer, Answer::WriteDone))
 }
 
-/// Writes the owed blocks one after another, each answered, and says how many there were. Twice as many blocks
-/// as any row has are enough.
+/// Writes the owed blocks one after another, each with its answer, and returns their number. At most 200 are written, enough
+/// for every row.
 pub fn write_all(driven: &mut Driven, alloc: Global) -> Result<u32, AllocError> {
     let mut written = 0_u32;
     for _ in 0..200 {

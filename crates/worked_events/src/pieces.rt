@@ -1,5 +1,5 @@
-//! The calls of a core beside events: sendings in pieces, the parts of their tasks, previews, posts and writes that
-//! take no memory, reads, and lists of events. Every byte was worked out by hand.
+//! The calls of a core beside events: sendings in pieces, the parts of their tasks, previews, reads, lists of events, and posts
+//! and writes that do not allocate. Every byte was worked out by hand.
 ghost use Rattle.std.specs.Prelude.{◌≤◌, All, length};
 ghost use Rattle.hc_frames.specs.declared.limits.TheConstants.{SETUP_SERIAL};
 ghost use Rattle.hc_events.specs.Steps.{step_of};
@@ -57,7 +57,7 @@ fn part(alloc: Global, core: &Core, frames: &[Sending], task: u8) -> Result<Vec<
     Ok(part)
 }
 
-/// Whether the parts of two tasks have these sizes, and are a frame where they are one after the other.
+/// True if the parts of two tasks have these sizes, and one after the other make up this frame.
 fn are_parts(
     alloc: Global,
     core: &Core,
@@ -84,8 +84,9 @@ const SHARED_TEXT: Text = (
     19,
 );
 
-/// Whether frames are that one, as a whole and by the parts of the two tasks. The first part has the 16 bytes of the
-/// frame's head and the datagram's 14, the second one the datagram's 13 and the 17 zeros that fill 60 bytes.
+/// True if the frames are the shared one, as a whole and by the parts of the two tasks. The first part has the 16 bytes of the
+/// frame's head and the 14 of the first datagram. The second part has the 13 of the second datagram and the 17 zeros that fill
+/// 60 bytes.
 fn are_shared(alloc: Global, core: &Core, frames: &[Sending]) -> Result<bool, AllocError>
     requires frames { All (CanBeFilled core.now.history) frames.now }
     requires few { length frames.now ≤ SETUP_SERIAL }
@@ -95,7 +96,8 @@ fn are_shared(alloc: Global, core: &Core, frames: &[Sending]) -> Result<bool, Al
     Ok(parted && are_texts(&texts, &[SHARED_TEXT]))
 }
 
-/// Whether the two tasks are proposed as one frame, filled and committed. A proposal by itself uses no serial.
+/// Proposes the two tasks, fills their frame and commits it. True if it is the shared frame, and the proposal by itself used no
+/// serial.
 fn is_sent_in_pieces(alloc: Global, core: &mut Core) -> Result<bool, CoreFault> {
     let tasks = [0, 1];
     if !are_sent_together(&tasks) {
@@ -107,10 +109,10 @@ fn is_sent_in_pieces(alloc: Global, core: &mut Core) -> Result<bool, CoreFault> 
     Ok(shared)
 }
 
-/// What leads to it.
+/// The stages before the sending in pieces.
 const BEFORE: &[Stage] = &[Blocks(4), Rows(TO_TASK_1), Blocks(2)];
 
-/// Its answer is awaited, and the next frame has the next serial.
+/// The rows after the sending: its answer is awaited, and the next frame has the next serial.
 const AFTER: &[Row] = &[
     (
         Comes(6, &[FIRST, SECOND]),
@@ -123,8 +125,8 @@ const AFTER: &[Row] = &[
     ),
 ];
 
-/// The first of these rows that doesn't hold once the tasks were sent in pieces; one after them all where they
-/// weren't.
+/// Sends the tasks in pieces, and returns the first row of `AFTER` that does not hold. `AFTER.len()` if the tasks were not
+/// sent. None if all rows hold.
 fn first_wrong_after(alloc: Global, driven: &mut Driven) -> Result<Option<usize>, CoreFault> {
     let wrong = first_wrong_at(driven, alloc, BEFORE)?;
     if wrong.is_some() || !is_sent_in_pieces(alloc, &mut driven.core)? {
@@ -175,11 +177,11 @@ fn nothing_is_proposed_while_blocks_are_owed(rt: HostRuntime) -> Result<(), Fail
     Ok(())
 }
 
-/// A datagram by its task and its number, and the frame where it is shown.
+/// A datagram, by its task and its number, and the frame that its preview shows, if there is one.
 type Shown = (u8, u8, Option<Text>);
 
-/// Though blocks are owed, the axis' datagram is shown with the first serial and with what was posted. The task has no
-/// other, task 1 none, and there is no task 8.
+/// Previews while blocks are owed. The axis' datagram has the first serial and the posted outputs. Task 0 has no other
+/// datagram, task 1 has none, and there is no task 8.
 const SHOWN: &[Shown] = &[
     (0, 0, Some((0, 0x0f, b"\x0c\0\0\0\0\x01\x03\0\0\0\x02", 33))),
     (0, 1, None),
@@ -187,7 +189,7 @@ const SHOWN: &[Shown] = &[
     (8, 0, None),
 ];
 
-/// Whether a datagram is shown in its frame.
+/// True if the preview of a datagram is this frame, or none.
 fn is_shown(alloc: Global, core: &Core, shown: &Shown) -> Result<bool, AllocError> {
     let Some(frame) = core.preview(shown.0, shown.1) else {
         return Ok(shown.2.is_none());
@@ -199,7 +201,7 @@ fn is_shown(alloc: Global, core: &Core, shown: &Shown) -> Result<bool, AllocErro
     })
 }
 
-/// The number of the first datagram that isn't, none where all are.
+/// The number of the first datagram with another preview. None if there is none.
 fn first_unshown(alloc: Global, core: &Core) -> Result<Option<usize>, AllocError> {
     let mut number = 0_usize;
     for shown in SHOWN {
@@ -211,7 +213,7 @@ fn first_unshown(alloc: Global, core: &Core) -> Result<Option<usize>, AllocError
     Ok(None)
 }
 
-/// The answer to a post; of it and of the core nothing more is known here.
+/// The result of a post. The call states nothing of it, or of the core.
 fn post(core: &mut Core, task: u8, epoch: u32, bytes: &[u8]) -> Result<(), CoreFault> {
     core.post(task, epoch, bytes)
 }
@@ -227,7 +229,7 @@ fn posted(core: &mut Core) -> [Result<(), CoreFault>; 4] {
     ]
 }
 
-/// What posts are answered, and the first datagram that isn't shown as it should after them.
+/// The results of the posts, and the first datagram with another preview after them.
 fn posted_and_shown(alloc: Global) -> Result<([Result<(), CoreFault>; 4], Option<usize>), Fail> {
     let mut driven = opened_axis(alloc)?;
     let posted = posted(&mut driven.core);
@@ -249,7 +251,7 @@ fn a_posted_datagram_is_shown(rt: HostRuntime) -> Result<(), Fail> {
     Ok(())
 }
 
-/// The frame that writes the first block: the length and the activation of the sync manager of the outputs.
+/// The frame that writes the first block, the sync manager's of the outputs: start address, length, control and activation.
 const FIRST_WRITE: Text = (
     0,
     0x14,
@@ -257,8 +259,8 @@ const FIRST_WRITE: Text = (
     26,
 );
 
-/// What a write into so many bytes of 0xaa is answered, and whether the frame that writes the first block is at
-/// their front, or all are as they were; after the frame they are.
+/// Writes a block into bytes of 0xaa. Returns the result, and true if the frame of the first block is at their front and the
+/// other bytes are as they were. A write that fails leaves all bytes as they were.
 fn written(core: &mut Core, out: &mut [u8]) -> (Result<usize, CoreFault>, bool) {
     out.fill(0xaa);
     let answer = core.write_into(out);
@@ -270,7 +272,7 @@ fn written(core: &mut Core, out: &mut [u8]) -> (Result<usize, CoreFault>, bool) 
 /// Two writes, the first into too few bytes; then the number of owed blocks and the next serial.
 type Written = ([(Result<usize, CoreFault>, bool); 2], u32, u64);
 
-/// They are done at the axis' opening.
+/// The two writes at the axis' opening.
 fn written_at_opening(alloc: Global) -> Result<Written, Fail> {
     let mut driven = opened_axis(alloc)?;
     let short = written(&mut driven.core, &mut [0; 59]);
@@ -278,7 +280,8 @@ fn written_at_opening(alloc: Global) -> Result<Written, Fail> {
     Ok(([short, long], driven.core.owed(), driven.core.next_serial()))
 }
 
-/// A frame has 60 bytes at least. Refused for room a write uses no serial. What was sent is owed until it is answered.
+/// A frame has at least 60 bytes. A write that fails for want of room uses no serial. A block that was sent is owed until it is
+/// answered.
 #[test]
 fn a_block_is_written_into_a_slice(rt: HostRuntime) -> Result<(), Fail> {
     let wanted = [(Err(CoreFault::Room(60)), true), (Ok(60), true)];
@@ -286,7 +289,8 @@ fn a_block_is_written_into_a_slice(rt: HostRuntime) -> Result<(), Fail> {
     Ok(())
 }
 
-/// The frame that writes all blocks, in a slice, and whether it is as it should be.
+/// Writes all blocks into bytes of 0xaa. Returns the result, and true if their frame is at the front and the other bytes are as
+/// they were. A write that fails leaves all bytes as they were.
 fn all_written(core: &mut Core, out: &mut [u8]) -> (Result<SentWrites, CoreFault>, bool) {
     out.fill(0xaa);
     let answer = core.write_all_into(out);
@@ -302,7 +306,7 @@ fn all_written(core: &mut Core, out: &mut [u8]) -> (Result<SentWrites, CoreFault
 /// Two frames of writes, the first into too few bytes; then the number of owed blocks and the next serial.
 type AllWritten = ([(Result<SentWrites, CoreFault>, bool); 2], u32, u64);
 
-/// They are done at the axis' opening.
+/// The two frames of writes at the axis' opening.
 fn all_written_at_opening(alloc: Global) -> Result<AllWritten, Fail> {
     let mut driven = opened_axis(alloc)?;
     let short = all_written(&mut driven.core, &mut [0; 111]);
@@ -310,7 +314,7 @@ fn all_written_at_opening(alloc: Global) -> Result<AllWritten, Fail> {
     Ok(([short, long], driven.core.owed(), driven.core.next_serial()))
 }
 
-/// Four blocks need 112 bytes. A shorter slice doesn't get a frame of fewer blocks: it is refused, and no serial is used.
+/// Four blocks need 112 bytes. A shorter slice does not get a frame of fewer blocks: the call fails, and no serial is used.
 #[test]
 fn all_blocks_are_written_into_a_slice(rt: HostRuntime) -> Result<(), Fail> {
     let sent = SentWrites {
@@ -322,7 +326,7 @@ fn all_blocks_are_written_into_a_slice(rt: HostRuntime) -> Result<(), Fail> {
     Ok(())
 }
 
-/// What a write is answered once no block is owed.
+/// The result of a write once no block is owed.
 fn unwritten(alloc: Global) -> Result<Result<usize, CoreFault>, Fail> {
     let mut driven = opened_axis(alloc)?;
     let _ = first_wrong_at(&mut driven, alloc, &[Blocks(4)])?;
@@ -349,7 +353,7 @@ fn answers(
     core.run(alloc, &[first, second])
 }
 
-/// Whether answers are these.
+/// True if the answers are these, in order.
 fn are_wanted(answers: &[Answer], wanted: &[Wanted]) -> bool {
     if answers.len() != wanted.len() {
         return false;
@@ -362,7 +366,7 @@ fn are_wanted(answers: &[Answer], wanted: &[Wanted]) -> bool {
     true
 }
 
-/// Whether the first of four blocks is written, and no task is sent meanwhile.
+/// Asks for a write, and for a sending. True if the first of four blocks is written, and no task is sent meanwhile.
 fn runs_a_write(alloc: Global, core: &mut Core) -> Result<bool, AllocError> {
     let both = answers(alloc, core, Event::SendWrite, Event::SendTasks(&[0]))?;
     let wanted = [
@@ -372,7 +376,7 @@ fn runs_a_write(alloc: Global, core: &mut Core) -> Result<bool, AllocError> {
     Ok(are_wanted(&both, &wanted))
 }
 
-/// Whether its answer is taken, and a post.
+/// Hands in the answer to the write, and a post. True if both are accepted.
 fn runs_an_arrival(alloc: Global, core: &mut Core) -> Result<bool, AllocError> {
     let came = back(alloc, 0, &[(Fpwr, 0x0810_03e9, &[0; 8], 1)])?;
     let post = Event::Post {
@@ -384,7 +388,7 @@ fn runs_an_arrival(alloc: Global, core: &mut Core) -> Result<bool, AllocError> {
     Ok(are_wanted(&both, &[Wanted::WriteDone, Wanted::Posted]))
 }
 
-/// Whether the outputs move to task 1, and nothing is read of the inputs.
+/// Moves the outputs to task 1, and reads task 0. True if the edit is accepted, and no inputs are read.
 fn runs_an_edit(alloc: Global, core: &mut Core) -> Result<bool, AllocError> {
     let edit = Edit::Move {
         station: 1001,
@@ -396,8 +400,8 @@ fn runs_an_edit(alloc: Global, core: &mut Core) -> Result<bool, AllocError> {
     Ok(are_wanted(&both, &wanted))
 }
 
-/// Whether a core is left as one that was asked them one by one: three blocks are owed, one serial is used, the
-/// present epoch is 1, and so is what is read.
+/// True if a core is as these events one by one would leave it: three blocks are owed, one serial is used, the present epoch is
+/// 1, and no inputs of it are read.
 fn is_left(alloc: Global, core: &Core) -> Result<bool, AllocError> {
     let read = core.read(alloc, 0)?;
     Ok(
@@ -406,7 +410,7 @@ fn is_left(alloc: Global, core: &Core) -> Result<bool, AllocError> {
     )
 }
 
-/// Whether lists of events of all six kinds are answered so.
+/// True if lists of events of six kinds have their answers, and leave the core as the events one by one would.
 fn runs(alloc: Global, core: &mut Core) -> Result<bool, AllocError> {
     Ok(
         runs_a_write(alloc, core)?
@@ -416,13 +420,13 @@ fn runs(alloc: Global, core: &mut Core) -> Result<bool, AllocError> {
     )
 }
 
-/// Returns whether lists of events of all six kinds are answered as they should be, from the axis' opening on.
+/// Returns whether lists of events of six kinds are answered as they should be, from the axis' opening on.
 fn is_run(alloc: Global) -> Result<bool, Fail> {
     let mut driven = opened_axis(alloc)?;
     Ok(runs(alloc, &mut driven.core)?)
 }
 
-/// A list of events of all six kinds is answered, and leaves the core, as the events one by one would.
+/// A list of events is answered, and leaves the core, as the events one by one would. Six kinds of events are tested.
 #[test]
 fn lists_of_events_are_answered(rt: HostRuntime) -> Result<(), Fail> {
     assert!(rt; is_run(rt.alloc())?);

@@ -23,7 +23,7 @@ pub const FOUR: Text = (
     2,
 );
 
-/// The four as they come back, each with the counter 1.
+/// The four blocks' datagrams as they come back, each with the counter 1.
 const FOUR_BACK: &[Back] = &[
     (Fpwr, 0x0810_03e9, &[0; 8], 1),
     (Fpwr, 0x0600_03e9, &[0; 16], 1),
@@ -31,7 +31,7 @@ const FOUR_BACK: &[Back] = &[
     (Fpwr, 0x0610_03e9, &[0; 16], 1),
 ];
 
-/// They are written in one frame, which is answered once. No task is sent before.
+/// The four blocks are written in one frame, which is answered once. No task is sent before.
 const IN_ONE_FRAME: &[Row] = &[
     (Writes, Wanted::WritesSent(FOUR)),
     (Send(&[0]), Wanted::Refused(CoreFault::Unprogrammed(4))),
@@ -188,7 +188,7 @@ const TOOL_COMES: &[Row] = &[
     (Send(&[0]), Wanted::Refused(CoreFault::Unprogrammed(1))),
 ];
 
-/// All of them, each from its line's opening on.
+/// The lines of these rows, each from its opening on.
 const LINES: &[Case] = &[
     (AXIS, &[Rows(IN_ONE_FRAME)]),
     (AXIS, &[Rows(THREE_LEFT), Rows(ONE_MISSED)]),

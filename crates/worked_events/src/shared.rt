@@ -21,19 +21,19 @@ pub const SECOND: Back = (Lrw, 0x0200_0000, b"\x02", 2);
 /// The datagram of task 1, its outputs, which no slave has written.
 const UNWRITTEN: Back = (Lrw, 0x0200_0000, b"\x02", 1);
 
-/// What they are reported to be.
+/// The outcome of the first datagram of task 0 with a good counter.
 pub const FIRST_INPUTS: Outcome = Inputs {
     task: 0,
     datagram: 0,
 };
 
-/// What the first datagram of task 1 is answered with a good counter.
+/// The outcome of the first datagram of task 1 with a good counter.
 pub const SECOND_INPUTS: Outcome = Inputs {
     task: 1,
     datagram: 0,
 };
 
-/// What leads to the two tasks; the two moved blocks are written after it, with the serials 4 and 5.
+/// The rows that lead to the two tasks. The two moved blocks are written after them, with the serials 4 and 5.
 pub const TO_TASK_1: &[Row] = &[
     (Post(0, 0, &[2]), Wanted::Posted),
     (Move(1001, 0, 1), Wanted::Edited(1, 2, 2)),
@@ -66,8 +66,8 @@ const TOGETHER: &[Row] = &[
     (Read(1), Wanted::Image(1, &[None])),
 ];
 
-/// A datagram that was sent again is stale in the older frame, and the other one isn't. A frame whose datagrams are
-/// exchanged, left out or repeated answers nothing and uses up nothing.
+/// A datagram that was sent again is stale in the older frame, and the other one is not. A frame whose datagrams are exchanged,
+/// left out or repeated answers nothing and uses up nothing.
 const SENT_AGAIN: &[Row] = &[
     (
         Send(&[0, 1]),
@@ -113,7 +113,7 @@ const TURNED: &[Row] = &[
     ),
 ];
 
-/// Two frames are answered in the other order than they were sent in. Where each datagram was sent again the frame is
+/// Two frames are answered in the reverse of the order in which they were sent. A frame whose datagrams were all sent again is
 /// stale as a whole.
 const EXCHANGED: &[Row] = &[
     (
@@ -146,7 +146,7 @@ const EXCHANGED: &[Row] = &[
     ),
 ];
 
-/// All of them, one after another.
+/// The stages of tasks that share frames, one after another.
 pub const SHARED: &[Case] = &[(
     AXIS,
     &[
@@ -170,7 +170,7 @@ fn tasks_share_a_frame(rt: HostRuntime) -> Result<(), Fail> {
 /// A frame's size, and the two bytes of its EtherCAT header.
 type Sized = (usize, u8, u8);
 
-/// Whether frames have these sizes and headers.
+/// True if an answer has frames of these sizes and with these headers.
 fn are_sized(answer: &Answer, sizes: &[Sized]) -> bool {
     let Answer::Sent(frames) = answer else {
         return false;
@@ -190,10 +190,10 @@ fn are_sized(answer: &Answer, sizes: &[Sized]) -> bool {
     true
 }
 
-/// Slaves with outputs of so many bytes each, by task and bytes; tasks; and the frames where they are sent.
+/// Slaves with outputs, by task and number of bytes; the tasks that are sent; and their frames.
 type Wide = (&'static [(u8, u16)], &'static [u8], &'static [Sized]);
 
-/// Whether tasks are sent in such frames, once every block is written.
+/// Writes every block, and sends the tasks. True if their frames have these sizes and headers.
 fn sends_in(
     driven: &mut Driven,
     alloc: Global,
@@ -204,7 +204,7 @@ fn sends_in(
     Ok(are_sized(&driven.put(alloc, Event::SendTasks(tasks))?, sizes))
 }
 
-/// Whether a row's tasks are sent in its frames.
+/// True if a row's tasks are sent in its frames.
 fn is_sent_in(alloc: Global, row: &Wide) -> Result<bool, Fail> {
     let mut driven = opened_wide(alloc, row.0)?;
     Ok(sends_in(&mut driven, alloc, row.1, row.2)?)
@@ -240,7 +240,7 @@ const WIDE: &[Wide] = &[
     (&[(3, 1486)], &[0], &[]),
 ];
 
-/// The number of the first row whose tasks aren't sent in its frames, none where all are.
+/// The number of the first row whose tasks are not sent in its frames. None if there is none.
 fn first_unsent(alloc: Global) -> Result<Option<usize>, Fail> {
     let mut number = 0_usize;
     for row in WIDE {

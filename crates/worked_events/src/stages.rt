@@ -1,4 +1,4 @@
-//! What a line is put through, one stage after another.
+//! Stages of a line, one after another.
 use crate::asked::{Row, first_unprepared, first_wrong};
 use crate::driven::Driven;
 use crate::lines::{opened, write_all};
@@ -11,28 +11,28 @@ use std::test::Fail;
 /// A stage.
 #[derive(Clone, Copy)]
 pub enum Stage {
-    /// The owed blocks are written and answered well until none is left: so many.
+    /// All owed blocks are written and answered well. There are this many.
     Blocks(u32),
-    /// Task 0 is sent so many times.
+    /// Task 0 is sent this many times.
     Sends(u32),
-    /// Each row's event is answered as it wants.
+    /// Each row's event has its answer.
     Rows(&'static [Row]),
-    /// Each row's edit is prepared, and reported as the row wants; none is carried out.
+    /// Each row's edit is prepared, and has the row's report. None is carried out.
     Prepared(&'static [Row]),
-    /// The changes since they were taken last say just this.
+    /// The changes since the last taking are exactly these.
     Changes(&'static [Update]),
 }
 
 /// The number of a stage and of a row in it, from 0.
 pub type At = (usize, usize);
 
-/// Sends task 0, and says whether that was accepted.
+/// Sends task 0. True if that was accepted.
 pub fn is_sent(driven: &mut Driven, alloc: Global) -> Result<bool, AllocError> {
     let answer = driven.put(alloc, Event::SendTasks(&[0]))?;
     Ok(matches!(answer, Answer::Sent(_)))
 }
 
-/// Sends task 0 so many times, and says whether each was accepted.
+/// Sends task 0 `times` times. True if each sending was accepted.
 fn send_times(driven: &mut Driven, alloc: Global, times: u32) -> Result<bool, AllocError> {
     for _ in 0..times {
         if !is_sent(driven, alloc)? {
@@ -42,7 +42,7 @@ fn send_times(driven: &mut Driven, alloc: Global, times: u32) -> Result<bool, Al
     Ok(true)
 }
 
-/// The number of the first row of a stage that doesn't hold, none where all do.
+/// The number of the first row of a stage that does not hold. None if all hold. A stage without rows has the number 0.
 pub fn first_wrong_row(
     driven: &mut Driven,
     alloc: Global,
@@ -58,7 +58,7 @@ pub fn first_wrong_row(
     Ok(if holds { None } else { Some(0) })
 }
 
-/// Where it is that stages don't hold first, none where all do.
+/// The first stage that does not hold, and the row in it. None if all hold.
 pub fn first_wrong_at(
     driven: &mut Driven,
     alloc: Global,
@@ -77,13 +77,13 @@ pub fn first_wrong_at(
 /// A line's text, and its stages from the opening on.
 pub type Case = (&'static str, &'static [Stage]);
 
-/// Where it is that a line's stages don't hold first, none where all do.
+/// The first stage of a line that does not hold, and the row in it. None if all hold.
 fn first_wrong_of(alloc: Global, case: &Case) -> Result<Option<At>, Fail> {
     let mut driven = opened(alloc, case.0)?;
     Ok(first_wrong_at(&mut driven, alloc, case.1)?)
 }
 
-/// The number of the first line whose stages don't hold, and where; none where all do.
+/// The number of the first line with a stage that does not hold, and the stage and the row. None if there is none.
 pub fn first_wrong_case(alloc: Global, cases: &[Case]) -> Result<Option<(usize, At)>, Fail> {
     let mut number = 0_usize;
     for case in cases {

@@ -1,5 +1,5 @@
-//! Frames byte by byte, put together from the tables of the standard (ETG.1000.4, 5.3 and 5.4): six bytes of
-//! destination, six of source whose last five are the serial, the EtherType, a length word, and the datagrams.
+//! Frames byte by byte, from the tables of the standard (ETG.1000.4, 5.3 and 5.4). A frame has six bytes of destination, six of
+//! source whose last five are the serial, the EtherType, a length word, and the datagrams.
 use crate::asked::Back;
 use std::alloc::{AllocError, Global};
 

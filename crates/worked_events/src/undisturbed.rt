@@ -1,5 +1,5 @@
-//! Steady data, steady posts and task epochs over edits, worked out by hand: a tool that comes in a task of its own is not
-//! noticed by the axis, and a move of the axis' inputs is.
+//! Steady data, steady posts and task epochs over edits, worked out by hand. A tool that comes in a task of its own changes
+//! nothing for the axis, and a move of the axis' inputs does.
 use crate::answers::ANSWERED;
 use crate::asked::Asked::{
     Clear, Comes, Connect, Move, Post, PostSteady, Read, ReadSteady, Send, SendReady,
@@ -108,8 +108,8 @@ const MOVED: &[Row] = &[
     (PostSteady(2, 1, &[9]), Wanted::Posted),
 ];
 
-/// Stages, each with what a core then says of tasks 0, 1 and 2: their epochs, and the data of datagram 0 of task 0 with the
-/// serial.
+/// Stages, each with the state of a core after it: the epochs of tasks 0, 1 and 2, and the steady data of datagram 0 of task 0
+/// with their serial.
 const STAGES: &[(Stage, [u32; 3], Option<(&[u8], u64)>)] = &[
     (Blocks(4), [0, 0, 0], None),
     (Rows(RUNNING), [0, 0, 0], Some((b"\x02\x34\x0a", 4))),
@@ -118,12 +118,12 @@ const STAGES: &[(Stage, [u32; 3], Option<(&[u8], u64)>)] = &[
     (Rows(MOVED), [2, 2, 1], None),
 ];
 
-/// Whether the epochs of tasks 0, 1 and 2 are these.
+/// True if the epochs of tasks 0, 1 and 2 are these.
 fn has_epochs(core: &Core, epochs: [u32; 3]) -> bool {
     [core.task_epoch(0), core.task_epoch(1), core.task_epoch(2)] == epochs
 }
 
-/// Whether the steady data of datagram 0 of task 0 and their serial are these, or none.
+/// True if the steady data of datagram 0 of task 0 and their serial are these, or none.
 fn has_data(core: &Core, wanted: Option<(&[u8], u64)>) -> bool {
     match (core.steady_data(0, 0), core.steady_serial(0, 0), wanted) {
         (Some(data), Some(serial), Some((bytes, number))) => data == bytes && serial == number,
@@ -132,7 +132,8 @@ fn has_data(core: &Core, wanted: Option<(&[u8], u64)>) -> bool {
     }
 }
 
-/// The number of the first stage after which a core says something else. The number of the stages if there is none.
+/// The number of the first stage that does not hold, or after which a core has another state. The number of the stages if there
+/// is none.
 fn first_wrong(driven: &mut Driven, alloc: Global) -> Result<usize, Fail> {
     let mut number = 0_usize;
     for (stage, epochs, data) in STAGES {

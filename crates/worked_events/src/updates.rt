@@ -8,16 +8,16 @@ use crate::stages::{Case, first_wrong_case};
 use hc_events::change::Change;
 use std::test::Fail;
 
-/// What a change is to give.
+/// The expected contents of a change.
 #[derive(Clone, Copy)]
 pub enum Update {
     /// A task's datagram has these data.
     Good(u8, u8, &'static [u8]),
-    /// An edit after which so many variables are elsewhere, appear or go.
+    /// An edit by which this many variables move, appear or go.
     Swapped(u32),
 }
 
-/// Whether a change gives this.
+/// True if a change has these contents.
 fn says(change: &Change, updates: &Update) -> bool {
     match (change, updates) {
         (Change::Good(good), Update::Good(task, datagram, bytes)) => {
@@ -28,7 +28,7 @@ fn says(change: &Change, updates: &Update) -> bool {
     }
 }
 
-/// Whether changes say just this, in order.
+/// True if the changes are exactly these, in order.
 pub fn are_answered(changes: &[Change], updates: &[Update]) -> bool {
     let mut left = updates.iter();
     for change in changes {
@@ -40,9 +40,9 @@ pub fn are_answered(changes: &[Change], updates: &[Update]) -> bool {
     left.next().is_none()
 }
 
-/// No block that is written says anything. The one good answer of a task gets once, and no stale one, none with another
-/// counter and no refusal. An edit that moves nothing is reported all the same. Without its outputs the axis has its
-/// inputs from the datagram's first byte on: variable 1 goes, and variable 2 is elsewhere.
+/// Written blocks give no change. A good answer gives one change, once; stale answers, other counters and refusals give none.
+/// An edit that moves nothing gives a change all the same. Without its outputs the axis has its inputs from the datagram's
+/// first byte on: variable 1 goes, and variable 2 moves.
 const CASES: &[Case] = &[(
     AXIS,
     &[

@@ -1,4 +1,4 @@
-//! The values of output variables as they are sent: what was posted, where the variables are now.
+//! The values of output variables as they are sent: the posted values, at the variables' present places.
 use crate::asked::Asked::{Comes, Connect, Disconnect, Move, Post, Read, Remap, Send, Write};
 use crate::asked::{Row, Wanted};
 use crate::lines::AXIS;
@@ -9,10 +9,10 @@ use hc_events::faults::CoreFault;
 use hc_frames::Command::{Fpwr, Lrw};
 use std::test::Fail;
 
-/// The axis' outputs, posted as 2, move to task 1, whose first datagram has the logical address 0x0200_0000. Both
-/// tasks have other widths, so the one span of each is recut; both FMMUs' blocks have other bytes, since the
-/// inputs now begin their datagram. The value goes with the variable. It is 0 once the variable had no place in
-/// between, though the blocks, which weren't written meanwhile, are known as they were.
+/// The axis' outputs, posted as 2, move to task 1, whose first datagram has the logical address 0x0200_0000. Both tasks have
+/// other widths, so the one span of each is recut. Both FMMUs' blocks have other bytes, since the inputs now begin their
+/// datagram. The value goes with the variable. It is 0 once the variable had no place in between, though the blocks, which were
+/// not written meanwhile, are known as they were.
 const MOVED: &[Row] = &[
     (Post(0, 0, &[2]), Wanted::Posted),
     (Post(0, 0, &[2, 0]), Wanted::Refused(CoreFault::PostLength)),
@@ -120,13 +120,13 @@ const COMES: &[Row] = &[
     (Disconnect(0), Wanted::Refused(CoreFault::Mandatory)),
 ];
 
-/// What its coming would cost is asked before it comes.
+/// The reports of prepared edits before the tool is connected.
 const ASKED_BEFORE: &[Row] = &[
     (Connect(7), Wanted::Refused(CoreFault::UnknownAlias)),
     (Connect(100), Wanted::Edited(1, 1, 4)),
 ];
 
-/// Its task is sent, and answered.
+/// The tool's task is sent, and answered.
 const ANSWERED: &[Row] = &[
     (Post(0, 1, &[2]), Wanted::Posted),
     (
@@ -142,8 +142,8 @@ const ANSWERED: &[Row] = &[
     ),
 ];
 
-/// Of each kind of edit it is asked what it would cost: the outputs' two blocks and the place of the inputs move where
-/// they lose their PDO, and both FMMUs where they get another task.
+/// The reports of prepared edits of each kind. The outputs' two blocks and the place of the inputs move if the outputs lose
+/// their PDO, and both FMMUs if the outputs get another task.
 const ASKED_THEN: &[Row] = &[
     (Connect(100), Wanted::Refused(CoreFault::AlreadyPresent)),
     (
@@ -155,8 +155,8 @@ const ASKED_THEN: &[Row] = &[
     (Disconnect(100), Wanted::Edited(2, 1, 0)),
 ];
 
-/// None of these was carried out: what was read is still read. Now it goes, and what was read is gone; it comes again,
-/// and its four blocks are owed again.
+/// No prepared edit was carried out, so the data that were read are still read. When the tool is disconnected, they are gone.
+/// When it is connected again, its four blocks are owed again.
 const COMES_AGAIN: &[Row] = &[
     (Read(0), Wanted::Image(1, &[Some(b"\x02\x34\x0a")])),
     (Disconnect(100), Wanted::Edited(2, 1, 0)),
@@ -169,7 +169,7 @@ const COMES_AGAIN: &[Row] = &[
     (Read(0), Wanted::Image(3, &[None])),
 ];
 
-/// The value is 0 again.
+/// The outputs are 0 again.
 const ZERO_AGAIN: &[Row] = &[(
     Send(&[0]),
     Wanted::Sent(&[(9, 0x0f, b"\x0c\x09\0\0\0\x01\x03\0\0\0", 34)]),
@@ -225,9 +225,9 @@ slave = [
 ]
 "#;
 
-/// The values 1 and 2 change their places with the PDOs, which changes no block. Without the first PDO the area is
-/// narrower, so its span is recut and the last bit in the FMMU's block is another; the second one's value stays, and
-/// the first one's is 0 when it comes again.
+/// The values 1 and 2 change their places with the PDOs, which changes no block. Without the first PDO the area is narrower, so
+/// its span is recut and the last bit in the FMMU's block is another. The second value stays, and the first one is 0 when its
+/// PDO is assigned again.
 const EXCHANGED: &[Row] = &[
     (Post(0, 0, &[0x21]), Wanted::Posted),
     (
@@ -291,7 +291,7 @@ slave = [
 ]
 "#;
 
-/// The gap is never sent as posted, and what comes back for the inputs isn't sent out again. The slave reads and
+/// The gap is never sent as posted, and the bytes that come back for the inputs are not sent out again. The slave reads and
 /// writes: a counter of 3.
 const GAP: &[Row] = &[
     (
@@ -317,7 +317,7 @@ const GAP: &[Row] = &[
     (Read(0), Wanted::Image(0, &[Some(b"\xff\xff\xa5")])),
 ];
 
-/// All of them, each from its line's opening on. Each time the tool comes its four blocks are written.
+/// The lines of these rows, each from its opening on. Each time the tool is connected, its four blocks are written.
 pub const LINES: &[Case] = &[
     (AXIS, &[Blocks(4), Rows(MOVED)]),
     (
@@ -347,7 +347,8 @@ pub const LINES: &[Case] = &[
     (GAPS, &[Blocks(4), Rows(GAP)]),
 ];
 
-/// A growth that is refused once changes nothing: the event is asked again.
+/// The value of an output variable is sent at the variable's present place. An event whose allocation failed has changed
+/// nothing, and is put to the core again.
 #[test]
 fn values_are_sent_where_their_variables_are(rt: HostRuntime) -> Result<(), Fail> {
     assert_eq!(rt; first_wrong_case(rt.alloc(), LINES)?, None);

@@ -60,7 +60,7 @@ group = [
 ]
 "#;
 
-/// What is done with the line.
+/// A step on the line.
 #[derive(Clone, Copy)]
 enum Step {
     /// Each owed block is written and answered well.
@@ -151,7 +151,7 @@ fn carried_out(core: &mut Core, alloc: Global, edit: &Edit) -> Result<u8, EditFa
     Ok(waiting)
 }
 
-/// Does what is no edit, or what comes after one. It returns whether nothing was refused.
+/// Carries out a step that is no edit, or the part of a step after its edit. True if nothing was refused.
 fn is_done(driven: &mut Driven, alloc: Global, step: Step) -> Result<bool, AllocError> {
     Ok(match step {
         Write => write_all(driven, alloc)? > 0,

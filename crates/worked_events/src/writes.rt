@@ -61,7 +61,7 @@ const WRITES: &[Row] = &[
     (Send(&[0]), Wanted::Refused(CoreFault::Unprogrammed(1))),
 ];
 
-/// The last one is answered, and the task is sent with the next serial, 4.
+/// The last write is answered, and the task is sent with the next serial, 4.
 const LAST_ANSWER: &[Row] = &[
     (
         Comes(3, &[(Fpwr, 0x0610_03e9, &[0; 16], 1)]),
@@ -124,11 +124,11 @@ const FOREIGN: &[Row] = &[
     (Send(&[0]), Wanted::Refused(CoreFault::Unprogrammed(1))),
 ];
 
-/// From the sending of a write on nothing is known of its block, though an older write of it was confirmed with
-/// the very bytes that the line has again: without inputs the sync manager's block has length 0 and isn't
-/// activated, and it is written so; with them again the FMMU's block is known as before, the sync manager's isn't.
-/// The answer comes too late, since an edit was accepted in between. Each remap changes the width of one area, so
-/// its task's one span is recut, and both blocks of the area have other bytes.
+/// Once a write is sent nothing is known of its block, even if an older write of it was confirmed with the bytes that the line
+/// has again. Without inputs the sync manager's block has length 0 and is not activated, and it is written so. With inputs
+/// again the FMMU's block is known as before, and the sync manager's is not. The answer comes too late, since an edit was
+/// accepted in between. Each remap changes the width of one area, so its task's one span is recut, and both blocks of the area
+/// have other bytes.
 const UNDER_WAY: &[Row] = &[
     (Remap(1001, 1, &[]), Wanted::Edited(1, 1, 2)),
     (
@@ -212,7 +212,7 @@ const EMPTIED: &[Row] = &[
     (Send(&[0]), Wanted::Refused(CoreFault::Unprogrammed(3))),
 ];
 
-/// All of them, each from its line's opening on.
+/// The lines of these rows, each from its opening on.
 const LINES: &[Case] = &[
     (AXIS, &[Rows(WRITES), Rows(LAST_ANSWER)]),
     (AXIS, &[Rows(WRITES), Rows(MISSED), Rows(CONFIRMED)]),

@@ -1,5 +1,5 @@
-//! Two thousand drawn edits on a plan of 16 slaves; 48 more are declared among them: after each of them the
-//! boundaries of its tasks equal those of the plain fold over the tasks' lists.
+//! Two thousand drawn edits on a plan of 16 slaves, with declarations of 48 more among them. After each edit the boundaries of
+//! the plan's tasks equal those of the plain fold over the tasks' lists.
 ghost use Rattle.std.specs.Prelude.{All, IfOk};
 ghost use Rattle.hc_records.specs.Laws.{IsPackable};
 ghost use Rattle.hc_bitsum.specs.Tree.{HasPlace};
@@ -15,7 +15,7 @@ use hc_records::records::Dir;
 use std::alloc::{AllocError, Global};
 use std::test::Fail;
 
-/// The bits of each area in a task's list, 0 where it isn't in it.
+/// The bits of each area in a task's list. 0 if the area is not in the list.
 type Widths = [u16; AREAS];
 
 /// The bits that each area has in a task's list.
@@ -55,7 +55,7 @@ fn list_of(alloc: Global, widths: &Widths) -> Result<Vec<(Key, u16)>, AllocError
     Ok(list)
 }
 
-/// Whether the boundaries are `Key::START` and, after the first of these keys, the others.
+/// True if the boundaries are `Key::START` and these keys without the first.
 fn are_starts(starts: &[Key], keys: &[Key]) -> bool {
     match (starts, keys) {
         ([first, later @ ..], [_, others @ ..]) => *first == Key::START && later == others,
@@ -64,7 +64,7 @@ fn are_starts(starts: &[Key], keys: &[Key]) -> bool {
     }
 }
 
-/// Whether no task of a line has too many datagrams.
+/// True if no task of a line has too many datagrams.
 fn has_room(alloc: Global, line: &Line) -> Result<bool, AllocError> {
     for task in 0..8 {
         let list = list_of(alloc, &widths(line, task))?;
@@ -83,7 +83,7 @@ fn plan(alloc: Global) -> Result<Plan, Refused> {
     }
 }
 
-/// Whether the boundaries of each task of the plan are those of the fold over the line's list.
+/// True if the boundaries of each task of the plan are those of the fold over the line's list.
 fn has_folded(alloc: Global, plan: &Plan, line: &Line) -> Result<bool, AllocError> {
     for task in 0..8 {
         let list = list_of(alloc, &widths(line, task))?;
@@ -97,8 +97,8 @@ fn has_folded(alloc: Global, plan: &Plan, line: &Line) -> Result<bool, AllocErro
     Ok(true)
 }
 
-/// How many of 2,000 edits a plan accepts, if after each of them its boundaries are the fold's, and one is refused
-/// for its datagrams just where the fold over the lists that it would leave has too many; else none.
+/// The number of 2,000 edits that a plan accepts. None if its boundaries differ from the fold's after one of them, or an edit
+/// is refused for its datagrams though the fold over the new lists has room.
 fn accepted(plan: &mut Plan, alloc: Global) -> Result<Option<usize>, AllocError> {
     let mut drawing = Drawing::begin();
     let mut count = 0_usize;

@@ -45,7 +45,7 @@ group = [
 ]
 "#;
 
-/// And with another station address too.
+/// The feeder under another alias, and with another station address too.
 const OTHER_STATION: &str = r#"
 group = [
   { alias = 201, slave = [
@@ -70,8 +70,8 @@ group = [
 /// The four blocks of the gripper.
 const FOUR: &[(u16, u8)] = &[(1001, 0), (1001, 1), (1001, 2), (1001, 3)];
 
-/// A declared group is absent until it is connected, and is after the others then. What it has is taken from then on,
-/// present or not.
+/// A declared group is absent until it is connected, and is after the others then. Its alias, stations and variables are taken
+/// from its declaration on, present or not.
 const DECLARED: &[Step] = &[
     Connect(100, Ok((1, 1, 2, FOUR))),
     Declare(FEEDER, Ok((2, 0, 0, &[]))),
@@ -96,7 +96,7 @@ fn a_declared_group_comes_when_it_is_connected(rt: HostRuntime) -> Result<(), Fa
     Ok(())
 }
 
-/// A project of so many mandatory slaves without areas.
+/// A project of `count` mandatory slaves without areas.
 fn bare_slaves(alloc: Global, count: u16) -> Result<String, AllocError> {
     let mut text = String::new(alloc);
     for station in 1..=count {
@@ -120,7 +120,7 @@ fn bare_groups(alloc: Global, first: u16, last: u16) -> Result<String, AllocErro
     Ok(text)
 }
 
-/// The fault of declaring such a group with an alias; none where it is declared.
+/// The fault of declaring such a group with an alias. None if it is declared.
 fn fault_of(plan: &mut Plan, alloc: Global, alias: u16) -> Result<Option<EditFault>, Fail>
     requires { alias < 10000 }
 {
@@ -157,7 +157,8 @@ fn as_many_groups_are_declared_as_a_line_may_have(rt: HostRuntime) -> Result<(),
     Ok(())
 }
 
-/// A group that is none by itself is reported so, before what it takes is looked at.
+/// A group that is not valid by itself is refused with its own fault, before its alias, stations and variables are compared
+/// with those that are taken.
 #[test]
 fn a_group_is_judged_by_itself_first(rt: HostRuntime) -> Result<(), Fail> {
     let alloc = rt.alloc();

@@ -1,5 +1,5 @@
-//! Edits that are drawn from a fixed seed, on a plan of 16 slaves; 48 more are declared among them: what each makes of the
-//! line, and the edit itself. The tests of this crate and the exchanges of `worked_program` run them.
+//! Edits that are drawn from a fixed seed, on a plan of 16 slaves, with declarations of 48 more among them: the line after
+//! each, and the edit itself. The tests of this crate and the exchanges of `worked_program` run them.
 ghost use Rattle.std.specs.Prelude.{◌<◌, IsTrue};
 
 use hc_plan::plan::Plan;
@@ -19,7 +19,7 @@ pub const PDOS: [u16; 7] = [3, 8, 700, 3971, 4035, 3974, 3879];
 /// The PDOs that a remap assigns together.
 pub const ASSIGNED: [&[u16]; 8] = [&[], &[0], &[1], &[2], &[3], &[4], &[4, 5], &[4, 5, 6]];
 
-/// The bits that they give an area.
+/// The bits that each list of `ASSIGNED` gives an area.
 pub const BITS: [u16; 8] = [0, 3, 8, 700, 3971, 4035, 8009, 11_888];
 
 /// The bits of an entry, but for the last one of a PDO. The first entry is a variable, the second a gap, and so on.
@@ -31,16 +31,16 @@ const TASKS: [u8; 8] = [0, 0, 0, 0, 1, 1, 5, 7];
 /// The first state of the linear congruence.
 const SEED: u64 = 20_261_122;
 
-/// What the edits so far made of the line.
+/// The line after the edits so far.
 #[derive(Clone, Copy)]
 pub struct Line {
-    /// What is assigned to each area, as a place in `ASSIGNED`.
+    /// The PDOs assigned to each area, as a place in `ASSIGNED`.
     pub assigned: [u8; AREAS],
     /// The task of each area.
     pub tasks: [u8; AREAS],
-    /// Whether each group of four slaves is present.
+    /// True for each group of four slaves that is present.
     pub present: [bool; 16],
-    /// How many groups are declared.
+    /// The number of declared groups.
     pub declared: u16,
 }
 
@@ -59,18 +59,18 @@ const OPENING: Line = Line {
 #[derive(Clone, Copy)]
 pub struct Drawing {
     state: u64,
-    /// What those that the plan accepted made of the line.
+    /// The line after the edits that the plan accepted.
     pub line: Line,
 }
 
-/// What the plan answered to a drawn edit.
+/// The plan's answer to a drawn edit.
 #[derive(Clone, Copy)]
 pub struct Answered {
     /// The line as the edit would leave it.
     pub next: Line,
-    /// Whether the edit declares a group.
+    /// True if the edit declares a group.
     pub is_declaration: bool,
-    /// Why it was refused; none where it was accepted.
+    /// The fault by which the edit was refused. None if it was accepted.
     pub refused: Option<EditFault>,
 }
 
@@ -83,15 +83,15 @@ fn drawn(state: &mut u64) -> usize {
 }
 
 impl Line {
-    /// Whether the edit that a number draws declares a group: there are 16 at most.
+    /// True if the edit that a number draws declares a group. At most 16 groups are declared.
     fn declares(&self, number: usize) -> bool
         ensures { IsTrue result → self.now.declared < 16 }
     {
         self.declared < 16 && number / 1024 % 4 == 0 && number / 128 % 8 == 5
     }
 
-    /// The line after the edit that a number draws: a group is declared, comes or goes, an area gets other bits, or it
-    /// moves.
+    /// The line after the edit that a number draws: a group is declared, connected or disconnected, or an area gets other PDOs
+    /// or another task.
     fn edited(&self, number: usize) -> Line {
         let mut next = *self;
         let area = number % 128;
@@ -105,7 +105,7 @@ impl Line {
         next
     }
 
-    /// The bits that an area, below 128, has in a task's list; 0 where it isn't in it.
+    /// The bits that an area, below 128, has in a task's list. 0 if the area is not in the list.
     pub fn width(&self, task: u8, area: usize) -> u16
         requires { area < 128 }
     {
@@ -126,7 +126,7 @@ impl Drawing {
         }
     }
 
-    /// Draws an edit, and applies it to the plan. `AllocError` where a growth for the edit itself was refused.
+    /// Draws an edit, and applies it to the plan. Fails if an allocation for the edit itself failed.
     pub fn apply_next(&mut self, alloc: Global, plan: &mut Plan) -> Result<Answered, AllocError> {
         let number = drawn(&mut self.state);
         let next = self.line.edited(number);
@@ -147,7 +147,7 @@ impl Drawing {
     }
 }
 
-/// The entries of a PDO of so many bits; its variables have numbers from this one on.
+/// The entries of a PDO of this many bits. Its variables have numbers from `first` on.
 fn entries(alloc: Global, first: u32, bits: u16) -> Result<Items<Entry>, AllocError> {
     let mut entries = Items::new(alloc);
     let (mut left, mut number) = (bits, first);
@@ -167,7 +167,7 @@ fn entries(alloc: Global, first: u32, bits: u16) -> Result<Items<Entry>, AllocEr
     Ok(entries)
 }
 
-/// An area with nothing assigned; its variables have numbers from this one on.
+/// An area with nothing assigned. Its variables have numbers from `first` on.
 fn area(alloc: Global, first: u32, sm: u8, dir: Dir, phys: u16) -> Result<Area, AllocError> {
     let mut offered = Items::new(alloc);
     let (mut index, mut variable) = (0_u16, first);

@@ -1,4 +1,4 @@
-//! What a plan looks up after edits.
+//! Slaves and blocks that a plan looks up after edits.
 use crate::opened::plan_of;
 use hc_groups::index::Index;
 use hc_plan::plan::Plan;
@@ -7,8 +7,8 @@ use hc_records::faults::EditFault;
 use std::alloc::{AllocError, Global};
 use std::test::Fail;
 
-/// A line whose station addresses don't ascend, with slaves of none to three areas: two mandatory ones,
-/// and groups of two, of one and of one.
+/// A line whose station addresses do not ascend, with slaves of none to three areas: two mandatory ones, and groups of two, of
+/// one and of one.
 const MIXED: &str = r#"
 slave = [
   { station = 40, area = [
@@ -40,7 +40,8 @@ group = [
 ]
 "#;
 
-/// A group, whether it comes or goes, the station addresses of the line after it, and how many blocks they have.
+/// A group, true if it is connected and false if disconnected, the station addresses of the line after it, and the number of
+/// their blocks.
 type Row = (u16, bool, &'static [u16], u32);
 
 const ROWS: &[Row] = &[
@@ -52,7 +53,7 @@ const ROWS: &[Row] = &[
     (100, true, &[40, 7, 65535, 2, 30], 8),
 ];
 
-/// Whether a plan finds these slaves, in this order, and no more.
+/// True if a plan finds exactly these slaves, in this order.
 fn finds_slaves(plan: &Plan, stations: &[u16]) -> bool {
     let mut position = 0_u32;
     for station in stations {
@@ -64,7 +65,7 @@ fn finds_slaves(plan: &Plan, stations: &[u16]) -> bool {
     plan.station(position).is_none() && plan.position(8) == Err(EditFault::UnknownStation)
 }
 
-/// Whether after a row's edit a plan finds the row's slaves and blocks.
+/// Carries out a row's edit. True if the plan then finds the row's slaves and blocks.
 fn finds_after(plan: &mut Plan, alloc: Global, row: &Row) -> Result<bool, EditFault> {
     let edit = if row.1 {
         Edit::Connect(row.0)
@@ -92,7 +93,7 @@ fn group_of(alloc: Global, plan: &Plan, alias: u16) -> Result<Option<usize>, All
     Ok(index.of(groups).group(alias))
 }
 
-/// A declared group is found by its alias; an alias that no group has finds none.
+/// A declared group is found by its alias. An alias that no group has finds none.
 #[test]
 fn a_group_is_found_by_its_alias(rt: HostRuntime) -> Result<(), Fail> {
     let plan = plan_of(rt.alloc(), MIXED)?;

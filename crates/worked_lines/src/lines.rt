@@ -1,4 +1,4 @@
-//! Lines that are edited, and what their plans answer from the opening on.
+//! Lines that are edited, and the answers of their plans from the opening on.
 use crate::opened::plan_of;
 use crate::steps::Step::{At, Block, Connect, Datagrams, Disconnect, Move, Part, Remap};
 use crate::steps::{Answer, Step, Wanted, first_wrong_of};
@@ -73,10 +73,10 @@ slave = [
 ]
 "#;
 
-/// The datagram of task 0 where it has the outputs alone.
+/// The datagram of task 0 with the outputs alone.
 const OUTPUTS: Wanted = (0x0100_0000, 1, 2, 0);
 
-/// Without PDOs the inputs have no mapping. What is assigned already changes no width and begins an epoch.
+/// A remap to the assigned PDOs changes no width, and begins an epoch. Without PDOs the inputs have no mapping.
 const REMAPPED: &[Step] = &[
     Remap(1001, 1, &[0x1a00], Ok((1, 0, 0, &[]))),
     Remap(1001, 1, &[0x1a00], Ok((2, 0, 0, &[]))),
@@ -86,7 +86,7 @@ const REMAPPED: &[Step] = &[
     Datagrams(0, &[OUTPUTS]),
 ];
 
-/// The outputs move to task 1; tasks that aren't there, slaves, areas and PDOs that aren't declared are refused.
+/// The outputs move to task 1. Tasks over 7, and slaves, areas and PDOs that are not declared, are refused.
 const MOVED: &[Step] = &[
     Move(1001, 0, 1, Ok((1, 2, 2, &[(1001, 1), (1001, 3)]))),
     Datagrams(0, &[(0x0100_0000, 2, 1, 0)]),
@@ -110,10 +110,10 @@ group = [
 ]
 "#;
 
-/// The four blocks of its slave.
+/// The four blocks of the group's slave.
 const FOUR: &[(u16, u8)] = &[(1001, 0), (1001, 1), (1001, 2), (1001, 3)];
 
-/// It comes, and comes again without inputs: an absent group keeps its assignments.
+/// The group is connected, and connected again without inputs: an absent group keeps its assignments.
 const SILENCED: &[Step] = &[
     Datagrams(0, &[]),
     Connect(100, Ok((1, 1, 2, FOUR))),
@@ -185,7 +185,7 @@ group = [
 ]
 "#;
 
-/// Groups come and go while areas are remapped and moved.
+/// Groups are connected and disconnected while areas are remapped and moved.
 const THREE: &[Step] = &[
     Connect(
         100,
@@ -247,7 +247,7 @@ const LINES: &[(&str, &[Step])] = &[
     (THREE_GROUPS, THREE),
 ];
 
-/// The number of the first line, and of its step, that isn't answered as it wants; none where all are.
+/// The numbers of the first line with a step that has another answer, and of the step. None if there is none.
 fn first_wrong_line(alloc: Global) -> Result<Option<(usize, usize)>, Fail> {
     let mut number = 0_usize;
     for line in LINES {
@@ -259,14 +259,15 @@ fn first_wrong_line(alloc: Global) -> Result<Option<(usize, usize)>, Fail> {
     Ok(None)
 }
 
-/// A growth that is refused once changes nothing: the edit is asked again.
+/// Each edit has the report that was worked out by hand. An edit whose allocation failed has changed nothing, and is carried
+/// out again.
 #[test]
 fn edits_say_what_they_change(rt: HostRuntime) -> Result<(), Fail> {
     assert_eq!(rt; first_wrong_line(rt.alloc())?, None);
     Ok(())
 }
 
-/// The group is connected and disconnected, and so are the mandatory one and one that isn't declared.
+/// The group is connected and disconnected, and so are the mandatory one and one that is not declared.
 const EDITS: [Edit; 7] = [
     Edit::Connect(100),
     Edit::Connect(100),
@@ -288,7 +289,7 @@ const ANSWERS: [Answer; 7] = [
     Err(EditFault::UnknownAlias),
 ];
 
-/// Whether an answer is that which it is to be.
+/// True if an answer is the wanted one.
 fn is_answer(answer: &Result<Report, EditFault>, wanted: &Answer) -> bool {
     match (answer, wanted) {
         (Ok(report), Ok(reported)) => {
@@ -301,7 +302,7 @@ fn is_answer(answer: &Result<Report, EditFault>, wanted: &Answer) -> bool {
     }
 }
 
-/// Whether the edits, given as a list, are answered so. `Memory` for one of them is the answer to it alone.
+/// Runs the edits as a list. True if each has its answer. Fails if an allocation failed.
 fn are_answered(plan: &mut Plan, alloc: Global) -> Result<bool, AllocError> {
     let answers = plan.run(alloc, &EDITS)?;
     for (answer, wanted) in answers.iter().zip(&ANSWERS) {
@@ -315,8 +316,7 @@ fn are_answered(plan: &mut Plan, alloc: Global) -> Result<bool, AllocError> {
     Ok(answers.len() == ANSWERS.len())
 }
 
-/// A list of edits is answered edit by edit, in order. An edit that is answered `Memory` leaves the others to their own
-/// answers.
+/// A list of edits is answered edit by edit, in order. An edit that fails with `Memory` leaves the others to their own answers.
 #[test]
 fn a_list_of_edits_is_answered_in_its_order(rt: HostRuntime) -> Result<(), Fail> {
     let mut plan = plan_of(rt.alloc(), ONE_GROUP)?;

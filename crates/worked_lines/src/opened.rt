@@ -7,7 +7,7 @@ use hc_records::records::Group;
 use std::alloc::Global;
 use thiserror::Error;
 
-/// Why a project has no plan.
+/// The fault of a project without a plan.
 #[derive(Debug, Drop, Error)]
 pub enum Refused {
     /// The project was refused.

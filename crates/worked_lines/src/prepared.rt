@@ -1,4 +1,4 @@
-//! Edits that are prepared and let go, and then carried out.
+//! Edits that are prepared and dropped, and then carried out.
 use crate::drawn::remap;
 use crate::opened::plan_of;
 use crate::steps::has_block;
@@ -9,7 +9,7 @@ use hc_registers::ranked::{Gone, RankedBlock};
 use std::alloc::Global;
 use std::test::Fail;
 
-/// A slave in the mandatory group, and one in a group that comes and goes.
+/// A slave in the mandatory group, and one in a group that is connected and disconnected.
 const TWO_GROUPS: &str = r#"
 slave = [
   { station = 1001, area = [
@@ -29,7 +29,7 @@ group = [
 /// No slave leaves.
 const NONE: Gone = Gone { rank: 1, slaves: 0 };
 
-/// Whether a plan has these blocks.
+/// True if a plan has these blocks.
 fn has_blocks(plan: &Plan, blocks: &[RankedBlock]) -> bool {
     for moved in blocks {
         let block = &moved.found.block;
@@ -46,7 +46,7 @@ fn has_blocks(plan: &Plan, blocks: &[RankedBlock]) -> bool {
     true
 }
 
-/// Whether an edit that was prepared gives its report and its blocks when it is asked of the plan.
+/// Carries out an edit that was prepared. True if it has the prepared report, and the plan then has the prepared blocks.
 fn is_done(
     plan: &mut Plan,
     alloc: Global,
@@ -58,8 +58,8 @@ fn is_done(
     Ok(format!(in alloc; "{report:?}")? == foretold && has_blocks(plan, prepared.blocks()))
 }
 
-/// Whether an edit by which these slaves leave is prepared, which leaves the plan with all that it keeps, and is
-/// then done so.
+/// Prepares an edit, and then carries it out. True if the preparing names these slaves as leaving and leaves the plan as it
+/// was, and the edit is carried out as prepared.
 fn is_prepared(plan: &mut Plan, alloc: Global, edit: &Edit, gone: Gone) -> Result<bool, Fail> {
     let before = format!(in alloc; "{plan:?}")?;
     let prepared = plan.prepare(alloc, edit)?;
@@ -67,7 +67,7 @@ fn is_prepared(plan: &mut Plan, alloc: Global, edit: &Edit, gone: Gone) -> Resul
     Ok(is_left && prepared.gone() == gone && is_done(plan, alloc, edit, &prepared)?)
 }
 
-/// An edit that is prepared and let go leaves its plan as it was, and can be carried out afterwards.
+/// An edit that is prepared and dropped leaves its plan as it was, and can be carried out afterwards.
 #[test]
 fn a_prepared_edit_leaves_its_plan(rt: HostRuntime) -> Result<(), Fail> {
     let alloc = rt.alloc();

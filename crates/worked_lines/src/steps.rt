@@ -1,4 +1,4 @@
-//! What a line's plan is asked, step by step, with what it is to answer.
+//! Steps of a line's plan, each with its answer.
 use crate::drawn::remap;
 use crate::opened::{group_of, plan_of};
 use hc_places::table::{Datagram, Places};
@@ -10,11 +10,11 @@ use hc_records::records::{Dir, VarId};
 use std::alloc::{AllocError, Global};
 use std::test::Fail;
 
-/// The epoch, how many spans are recut and variables get another place, and the blocks that move, by station address
+/// The epoch, the numbers of recut spans and of variables that get another place, and the blocks that move, by station address
 /// and number.
 pub type Reported = (u32, u32, u32, &'static [(u16, u8)]);
 
-/// What an edit is answered.
+/// The answer to an edit.
 pub type Answer = Result<Reported, EditFault>;
 
 /// A datagram: its address, length, expected counter and offset.
@@ -23,7 +23,7 @@ pub type Wanted = (u32, u16, u16, u16);
 /// A place: its task, datagram, first bit, bits and direction.
 pub type IsPlaced = (u8, u8, u16, u8, Dir);
 
-/// A step.
+/// A step, with its answer.
 #[derive(Clone, Copy)]
 pub enum Step {
     Connect(u16, Answer),
@@ -44,10 +44,10 @@ pub enum Step {
     Block(u16, u8, u16, &'static [u8]),
 }
 
-/// The last of the variables.
+/// The number of the last variable.
 const LAST: u32 = 7;
 
-/// Whether two tables have the same part and the same first datagrams of each task.
+/// True if two tables have the same part and the same first datagram of each task.
 fn has_same_tasks(one: &Places, other: &Places) -> bool {
     for task in 0..8 {
         if one.part(task) != other.part(task) || one.datagram(task, 0) != other.datagram(task, 0) {
@@ -57,7 +57,7 @@ fn has_same_tasks(one: &Places, other: &Places) -> bool {
     true
 }
 
-/// Whether two tables have the same places.
+/// True if two tables have the same places of the variables up to `LAST`, and the same tasks.
 fn is_same_table(one: &Places, other: &Places) -> bool {
     for number in 1..=LAST {
         if let Some(variable) = VarId::new(number) {
@@ -69,7 +69,7 @@ fn is_same_table(one: &Places, other: &Places) -> bool {
     has_same_tasks(one, other)
 }
 
-/// Whether a report gives this, and its swap leads from a table to another.
+/// True if a report has these numbers and blocks, and its swap leads from one table to the other.
 fn says(
     alloc: Global,
     report: &Report,
@@ -86,8 +86,8 @@ fn says(
     )
 }
 
-/// The answer to an edit. Where a growth is refused it is asked again, if the plan has the epoch, as many groups and the
-/// table that it had.
+/// The answer to an edit. If an allocation fails, and the plan has the epoch, the number of groups and the table that it had,
+/// the edit is carried out again.
 fn applied(
     plan: &mut Plan,
     alloc: Global,
@@ -105,7 +105,7 @@ fn applied(
     }
 }
 
-/// Whether an edit is answered so. A refused one leaves the table.
+/// Carries out an edit. True if it has this answer, and a refused one leaves the table.
 fn is_answered(plan: &mut Plan, alloc: Global, edit: &Edit, answer: &Answer) -> Result<bool, Fail> {
     let mut table = plan.places().copied(alloc)?;
     match (applied(plan, alloc, edit, &table), answer) {
@@ -122,7 +122,7 @@ fn is_answered(plan: &mut Plan, alloc: Global, edit: &Edit, answer: &Answer) -> 
     }
 }
 
-/// Whether a plan has these datagrams of a task, and no more.
+/// True if a plan has exactly these datagrams of a task.
 pub fn has_datagrams(plan: &Plan, task: u8, datagrams: &[Wanted]) -> bool {
     let mut number = 0_u8;
     for (address, length, expected, offset) in datagrams {
@@ -140,7 +140,7 @@ pub fn has_datagrams(plan: &Plan, task: u8, datagrams: &[Wanted]) -> bool {
     plan.places().datagram(task, number).is_none()
 }
 
-/// Whether a variable has a place, or none.
+/// True if a variable has this place, or none.
 fn is_at(plan: &Plan, number: u32, wanted: Option<IsPlaced>) -> bool {
     let Some(variable) = VarId::new(number) else {
         return false;
@@ -153,7 +153,7 @@ fn is_at(plan: &Plan, number: u32, wanted: Option<IsPlaced>) -> bool {
     }
 }
 
-/// Whether a slave's block at a number has these bytes and is at a register.
+/// True if a slave's block with this number has these bytes, and is at this register.
 pub fn has_block(plan: &Plan, station: u16, number: u8, register: u16, bytes: &[u8]) -> bool {
     match plan.block(station, number) {
         Some(block) => block.register() == register && block.bytes() == bytes,
@@ -161,7 +161,7 @@ pub fn has_block(plan: &Plan, station: u16, number: u8, register: u16, bytes: &[
     }
 }
 
-/// Whether a step is answered as it wants.
+/// True if a step has its answer.
 fn holds(plan: &mut Plan, alloc: Global, step: Step) -> Result<bool, Fail> {
     match step {
         Step::Connect(alias, answer) => is_answered(plan, alloc, &Edit::Connect(alias), &answer),
@@ -193,7 +193,7 @@ fn holds(plan: &mut Plan, alloc: Global, step: Step) -> Result<bool, Fail> {
     }
 }
 
-/// The number, from 0, of a plan's first step that isn't answered as it wants; none where all are.
+/// The number, from 0, of a plan's first step with another answer. None if there is none.
 fn first_wrong(plan: &mut Plan, alloc: Global, steps: &[Step]) -> Result<Option<usize>, Fail> {
     let mut number = 0_usize;
     for step in steps {
@@ -205,8 +205,7 @@ fn first_wrong(plan: &mut Plan, alloc: Global, steps: &[Step]) -> Result<Option<
     Ok(None)
 }
 
-/// The number, from 0, of the first step that is not answered as it should be, in the line of a text from its opening on; none
-/// if all are.
+/// The number, from 0, of the first step with another answer, in the line of a text from its opening on. None if there is none.
 pub fn first_wrong_of(alloc: Global, text: &str, steps: &[Step]) -> Result<Option<usize>, Fail> {
     let mut plan = plan_of(alloc, text)?;
     first_wrong(&mut plan, alloc, steps)

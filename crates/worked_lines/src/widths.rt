@@ -15,7 +15,7 @@ const PDO_BITS: u16 = 4096;
 /// The direction and the bits of an area.
 type Width = (Dir, u16);
 
-/// Entries without variables that have so many bits together.
+/// Entries without variables that have this many bits together.
 pub fn entries(alloc: Global, bits: u16) -> Result<Items<Entry>, AllocError> {
     let mut entries = Items::new(alloc);
     for _ in 0..bits / 64 {
@@ -28,7 +28,7 @@ pub fn entries(alloc: Global, bits: u16) -> Result<Items<Entry>, AllocError> {
     Ok(entries)
 }
 
-/// PDOs that have so many bits together, with the indexes from 0 on.
+/// PDOs that have this many bits together, with the indexes from 0 on.
 fn pdos(alloc: Global, bits: u16) -> Result<Items<Pdo>, AllocError> {
     let mut pdos = Items::new(alloc);
     let mut left = bits;
@@ -50,7 +50,7 @@ fn indexes(alloc: Global, bits: u16) -> Result<Items<u16>, AllocError> {
     Ok(indexes)
 }
 
-/// An area of task 0 with a direction and so many bits, all of its PDOs assigned.
+/// An area of task 0 with a direction and this many bits, all of its PDOs assigned.
 fn area(alloc: Global, sm: u8, dir: Dir, bits: u16) -> Result<Area, AllocError> {
     let offered = pdos(alloc, bits)?;
     Ok(Area {
@@ -101,14 +101,14 @@ const SMALL: &[Width] = &[(Dir::Out, 8 * 700)];
 /// The areas of a slave with an output area of 1,400 bytes.
 const FULL: &[Width] = &[(Dir::Out, 8 * 1400)];
 
-/// The slaves of a line, the datagrams of task 0, and its bytes of outputs and inputs; none where it has too many.
+/// The slaves of a line, the datagrams of task 0, and its bytes of outputs and inputs. None if it has too many datagrams.
 type Line = (
     &'static [&'static [Width]],
     Option<(&'static [Wanted], (u16, u16))>,
 );
 
-/// One bit more than a datagram holds begins another, and so does an area that doesn't fit any more. Inputs are after
-/// all outputs, and a slave counts in each datagram of its areas. A task has 16 datagrams, and no seventeenth.
+/// One bit more than a datagram holds begins another, and so does an area that no longer fits. Inputs are after all outputs,
+/// and a slave counts in each datagram of its areas. A task has 16 datagrams, and no seventeenth.
 const LINES: &[Line] = &[
     (
         &[&[(Dir::Out, 8 * 1485)], &[(Dir::Out, 8)], &[(Dir::Out, 1)]],
@@ -183,7 +183,7 @@ const LINES: &[Line] = &[
     (&[FULL; 17], None),
 ];
 
-/// Whether a line has its datagrams, or is refused since task 0 needs too many.
+/// True if a line has its datagrams, or is refused since task 0 needs too many.
 fn is_packed(alloc: Global, line: &Line) -> Result<bool, Refused> {
     match (plan_of_widths(alloc, line.0), line.1) {
         (Ok(plan), Some(wanted)) => {
@@ -195,7 +195,7 @@ fn is_packed(alloc: Global, line: &Line) -> Result<bool, Refused> {
     }
 }
 
-/// The number of the first line that isn't; none where all are.
+/// The number of the first line with another result. None if there is none.
 fn first_unpacked(alloc: Global) -> Result<Option<usize>, Refused> {
     let mut number = 0_usize;
     for line in LINES {

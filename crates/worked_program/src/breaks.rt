@@ -27,7 +27,7 @@ fn broken(broken: Broken) -> RunEnd {
     }
 }
 
-/// How a run over so many line feeds ends, and whether it prints nothing.
+/// The end of a run over this many line feeds, and true if it prints nothing.
 fn fed<R: Threads + Wait + Sync>(
     rt: &R,
     alloc: Global,
@@ -67,7 +67,7 @@ fn reading_ends_after_its_turns(rt: HostRuntime) -> Result<(), Fail> {
     Ok(())
 }
 
-/// How a run over a text ends whose reader fails in a way at a call, and what it prints.
+/// The end and the output of a run over a text whose reader fails in this way at a call.
 fn halted<R: Threads + Wait + Sync>(
     rt: &R,
     alloc: Global,
@@ -88,8 +88,8 @@ fn halted<R: Threads + Wait + Sync>(
     Ok(Printed { end, text: output })
 }
 
-/// At how many of the calls, from the first on, a failing read ends a run over a text, and one after the last
-/// read doesn't.
+/// The number of calls, from the first on and at most 20, at which a failing read has its effect. It ends a run over a text,
+/// except after the last read.
 pub fn reads_failed<R: Threads + Wait + Sync>(
     rt: &R,
     alloc: Global,
@@ -119,7 +119,7 @@ fn each_read_fails_once(rt: HostRuntime) -> Result<(), Fail> {
     Ok(())
 }
 
-/// At how many of the calls, from the first on, an interrupted read changes nothing of the first run.
+/// The number of calls, from the first on and at most 8, at which an interrupted read changes nothing of the first run.
 fn reads_interrupted<R: Threads + Wait + Sync>(
     rt: &R,
     alloc: Global,
@@ -142,7 +142,7 @@ fn an_interrupted_read_is_taken_again(rt: HostRuntime) -> Result<(), Fail> {
     Ok(())
 }
 
-/// How a run over a text ends whose writer is interrupted at every other call, and what it prints.
+/// The end and the output of a run over a text whose writer is interrupted at every other call.
 fn stuttered<R: Threads + Wait + Sync>(
     rt: &R,
     alloc: Global,
@@ -172,7 +172,7 @@ fn an_interrupted_write_is_taken_again(rt: HostRuntime) -> Result<(), Fail> {
     Ok(())
 }
 
-/// How a run ends whose writer is interrupted forever, and how often it is called.
+/// The end of a run whose writer is interrupted forever, and the number of the writer's calls.
 fn interrupted<R: Threads + Wait + Sync>(
     rt: &R,
     alloc: Global,
@@ -193,8 +193,8 @@ fn writing_ends_after_its_interruptions(rt: HostRuntime) -> Result<(), Fail> {
     Ok(())
 }
 
-/// Whether a run over a text whose writer takes so many times 7 bytes, and then none or fails, prints a front of
-/// what it is to print, and ends with a status where that is whole, else with 4.
+/// True if a run over a text, whose writer takes 7 bytes this many times and then none or fails, prints a prefix of its output.
+/// The run ends with the given status if that is the whole output, and otherwise with 4.
 fn is_cut_at<R: Threads + Wait + Sync>(
     rt: &R,
     alloc: Global,
@@ -223,7 +223,8 @@ fn is_cut_at<R: Threads + Wait + Sync>(
     Ok(is_front && end == wanted)
 }
 
-/// At how many of the writes, from the first on, a run over a text that prints another one is cut in both ways.
+/// The number of cuts, at most 160, with which a run over a text ends as it should. Each write in turn takes nothing, and then
+/// fails.
 pub fn writes_cut<R: Threads + Wait + Sync>(
     rt: &R,
     alloc: Global,
@@ -247,8 +248,8 @@ fn each_write_fails_in_turn(rt: HostRuntime) -> Result<(), Fail> {
     Ok(())
 }
 
-/// Whether a run over a text whose writer fails once, at a call, and takes bytes afterwards ends with status 4 and less than
-/// the whole of what it is to print; and with all of it where the call isn't reached.
+/// True if a run over a text, whose writer fails once and takes bytes afterwards, ends with status 4 and not with its whole
+/// output. If the failing call is not reached, the run ends with status 0 and its whole output.
 fn falters_at<R: Threads + Wait + Sync>(
     rt: &R,
     alloc: Global,
@@ -276,7 +277,7 @@ fn falters_at<R: Threads + Wait + Sync>(
     Ok(is_front && is_whole != output.has_failed && end == wanted)
 }
 
-/// At how many of the writes, from the first on, one failure ends a run over a text that prints another one.
+/// The number of writes, from the first on and at most 80, at which one failure ends a run over a text as it should.
 pub fn writes_falter<R: Threads + Wait + Sync>(
     rt: &R,
     alloc: Global,
@@ -299,8 +300,8 @@ fn a_failed_write_is_not_tried_again(rt: HostRuntime) -> Result<(), Fail> {
     Ok(())
 }
 
-/// Whether a run whose writer takes 0 to 5 times 7 bytes prints a front of a text, and ends with a status
-/// where that is the whole text, else with 4.
+/// True if a run, whose writer takes 7 bytes 0 to 5 times and then none, prints a prefix of a text. The run ends with the given
+/// status if that is the whole text, and otherwise with 4.
 fn is_cut<R: Threads + Wait + Sync>(
     rt: &R,
     alloc: Global,

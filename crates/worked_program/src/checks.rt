@@ -1,9 +1,9 @@
-//! What `projectcheck` says of a text that is spoilt in one piece: the fault, and where it is.
+//! The output of `projectcheck` for a text with one wrong piece: the fault and its place.
 use hc_program::checking::run_projectcheck;
 use std::alloc::Global;
 use std::test::Fail;
 
-/// A line where every key of the format is; a case turns one piece of it or two.
+/// A line with every key of the format. A case changes one piece of it.
 const LINE: &str = r#"[[slave]]
 station = 1001
 [[slave.area]]
@@ -36,7 +36,7 @@ alias = 200
 slave = [{ station = 2002 }]
 "#;
 
-/// Cases, a line each: a piece of the text, what is in its place, the exit status, and the lines that are printed.
+/// Cases, one a line: a piece of the text, its replacement, the exit status, and the printed lines.
 const CASES: &str = r#"station = 1001 -> station = 1001 => 0 ok
 station = 1001 -> station = => 3 project fault 1 NotToml; at line 2 column 10
 station = 1001 ->  => 3 project fault 2 MissingField; at slave[0].station
@@ -62,7 +62,7 @@ phys = 0x1180 -> phys = 0x1101 => 3 project fault 7 OverlappingAreas; at slave[0
 [0x1600] -> [0x1601, 0x1600, 0x1601] => 3 project fault 9 UnknownPdo; at slave[0].area[0].assigned[2] station 1001 first slave[0].area[0].assigned[0] station 1001
 index = 0x1601 -> index = 0x1600 => 3 project fault 9 UnknownPdo; at slave[0].area[0].pdo[1].index station 1001 first slave[0].area[0].pdo[0].index station 1001"#;
 
-/// What is printed of the line with a change, on one line after the exit status.
+/// The exit status and the output for the line with a change, on one line.
 fn printed_line(alloc: Global, change: &str) -> Result<String, Fail> {
     let (from, to) = change.split_once(" -> ").ok_or("no change")?;
     let (front, back) = LINE.split_once(from).ok_or("no such piece")?;
@@ -75,7 +75,7 @@ fn printed_line(alloc: Global, change: &str) -> Result<String, Fail> {
     Ok(format!(in alloc; "{status} {lines}")?)
 }
 
-/// The first case with another answer.
+/// The first case with another answer. None if there is none.
 fn mistold<'a>(alloc: Global, cases: &'a str) -> Result<Option<&'a str>, Fail> {
     for case in cases.lines() {
         let (change, wanted) = case.split_once(" => ").ok_or("nothing wanted")?;

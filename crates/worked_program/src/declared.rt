@@ -1,4 +1,4 @@
-//! Runs where groups are declared.
+//! Runs in which groups are declared.
 use crate::printed::ONE_IN_GROUP;
 use crate::rows::{Run, first_wrong};
 use std::test::Fail;
@@ -16,7 +16,8 @@ pdo = [{ index = 5, entries = [[3, 8]] }]
 %%
 "#;
 
-/// A group that is declared is after the others, absent until it is connected. What it has is taken from then on.
+/// The output for the feeder. A declared group is after the others, and absent until it is connected. Its alias, its station
+/// and its variable are taken.
 const FEEDER_TEXT: &str = "epoch 1 recut 1 moved 4
 epoch 2 recut 0 moved 0
 none
@@ -60,7 +61,7 @@ const NO_GROUPS: &[&str] = &[
     "declare\n%%\nlayout\n",
 ];
 
-/// What is said of them. The run goes on, and nothing is declared.
+/// The output for these documents. The run goes on, and nothing is declared.
 const NO_GROUPS_TEXT: &str = "declare fault 1 NotToml
 declare fault 1 NotToml
 declare fault 2 MissingField
@@ -79,13 +80,13 @@ declare fault 12 NotOneGroup
 epoch 0
 ";
 
-/// The commands that declare a group of two slaves without areas, and what they print at first.
+/// The commands that declare a group of two slaves without areas, and their output.
 const PAIR: &str =
     "declare\n[[group]]\nalias = 700\n[[group.slave]]\nstation = 3000\n[[group.slave]]\nstation = 3001\n%%\n";
 
 const ACCEPTED: &str = "epoch 1 recut 0 moved 0\n";
 
-/// What `layout` and `regs` print of a line whose last slave has 8 bits of outputs.
+/// The output of `layout` and `regs` for a line whose last slave has 8 bits of outputs.
 const LAST_SLAVE: &str = "epoch 0
 task 0 parts 1 0
 datagram 0 address 0x01000000 length 1 expected 2
@@ -134,14 +135,14 @@ const RUNS: &[Run] = &[
         2,
         &["declare fault 1 NotToml\nline 30: bad command\n"],
     ),
-    // it has no other word
+    // a declaration has no other word
     (&["%%\ndeclare 7\n%%\n"], 2, &["line 2: bad command\n"]),
     (
         &["%%\ndeclare declare\n%%\n"],
         2,
         &["line 2: bad command\n"],
     ),
-    // the lines of a document are counted, and what closes it
+    // the lines of a document are counted, and its closing line too
     (
         &["%%\n", PAIR, "foo\n"],
         2,
@@ -204,7 +205,8 @@ const LIMITS: &[Run] = &[
     ),
 ];
 
-/// Runs that declare groups print what was worked out by hand; text that declares no group is refused and changes nothing.
+/// Runs that declare groups print the text that was worked out by hand. Text that declares no group is refused and changes
+/// nothing.
 #[test]
 fn groups_are_declared(rt: HostRuntime) -> Result<(), Fail> {
     assert_eq!(rt; first_wrong(&rt, rt.alloc(), RUNS)?, None);

@@ -23,7 +23,7 @@ impl Read for Halting<'_> {
     }
 }
 
-/// A reader of so many line feeds.
+/// A reader of this many line feeds.
 #[derive(Drop)]
 pub struct LineFeeds {
     pub left: usize,

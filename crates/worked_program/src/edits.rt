@@ -27,7 +27,7 @@ assigned = [1]
 pdo = [{ index = 1, entries = [[0, 1]] }]
 "#;
 
-/// Connects and disconnects a group, the mandatory one and one that isn't declared.
+/// Connects and disconnects a group, the mandatory one and one that is not declared.
 const COMES_AND_GOES: &str = "%%
 connect 100
 connect 100
@@ -38,7 +38,7 @@ connect 0
 connect 7
 ";
 
-/// What that prints.
+/// The output of connecting and disconnecting.
 const COMES_AND_GOES_TEXT: &str = "epoch 1 recut 1 moved 4
 refused 2 AlreadyPresent
 epoch 2 recut 1 moved 0
@@ -51,7 +51,7 @@ refused 1 UnknownAlias
 /// An area without PDOs has no bits.
 const NO_BITS: &str = "%%\nremap 1001 1\nregs 1001\nlayout\n";
 
-/// What that prints.
+/// The output for the area without PDOs: its FMMU block is zeros.
 const NO_BITS_TEXT: &str = "epoch 1 recut 1 moved 2
 sm 2 at 0x0810: 00 11 01 00 64 00 01 00
 fmmu 0 at 0x0600: 00 00 00 01 01 00 00 01 00 11 00 02 01 00 00 00
@@ -65,7 +65,7 @@ datagram 0 address 0x01000000 length 1 expected 2
 /// An area moves to another task.
 const MOVED: &str = "%%\nmove 1001 0 1\nlayout\n";
 
-/// What that prints.
+/// The output of the move: the outputs are in task 1.
 const MOVED_TEXT: &str = "epoch 1 recut 2 moved 2
 epoch 1
 task 0 parts 0 2
@@ -77,21 +77,21 @@ datagram 0 address 0x02000000 length 1 expected 2
 /// A remap to the assigned PDOs begins an epoch, and changes nothing else.
 const SAME: &str = "%%\nremap 1001 1 0x1a00\nremap 1001 1 0x1a00\nremap 1001 1 6656\n";
 
-/// What that prints.
+/// The output of the remaps: three epochs, and no span recut or block moved.
 const SAME_TEXT: &str =
     "epoch 1 recut 0 moved 0\nepoch 2 recut 0 moved 0\nepoch 3 recut 0 moved 0\n";
 
 /// PDOs are in the order of a remap.
 const TURNED: &str = "%%\nplace 3\nremap 1001 0 0x1a01 0x1a00\nplace 3\nplace 2\n";
 
-/// What that prints.
+/// The output of the remap: the two variables change places.
 const TURNED_TEXT: &str = "var 3 task 0 datagram 0 bit 4 bits 4 dir in
 epoch 1 recut 0 moved 0
 var 3 task 0 datagram 0 bit 0 bits 4 dir in
 var 2 task 0 datagram 0 bit 4 bits 4 dir in
 ";
 
-/// Refused edits change nothing.
+/// Refused edits, which change nothing.
 const REFUSED: &str = "%%
 remap 9 0
 remap 1001 5
@@ -101,7 +101,7 @@ remap 1001 1 0x1a00 0x1a00
 layout
 ";
 
-/// What that prints.
+/// The output of the refused edits, and the layout as it was.
 const REFUSED_TEXT: &str = "refused 5 UnknownStation
 refused 7 NoSuchArea
 refused 8 NoSuchTask
@@ -112,10 +112,10 @@ task 0 parts 1 2
 datagram 0 address 0x01000000 length 3 expected 3
 ";
 
-/// An absent slave isn't edited.
+/// An absent slave is not edited.
 const ABSENT: &str = "%%\nremap 1001 0\nmove 1001 0 1\nlayout\n";
 
-/// What that prints.
+/// The output of the edits of an absent slave.
 const ABSENT_TEXT: &str = "refused 6 Absent\nrefused 6 Absent\nepoch 0\n";
 
 /// A group of a slave with areas that have nothing assigned.
@@ -145,7 +145,7 @@ sm 0 at 0x0800: 00 10 01 00 64 00 01 00
 fmmu 0 at 0x0600: 00 00 00 02 01 00 00 00 00 10 00 02 01 00 00 00
 ";
 
-/// A seventeenth datagram is refused; a task over the limit leaves those before it.
+/// Runs with edits. A move that needs a seventeenth datagram is refused, and leaves the line as it was.
 const RUNS: &[Run] = &[
     (&[ONE_IN_GROUP, COMES_AND_GOES], 0, &[COMES_AND_GOES_TEXT]),
     (&[ONE_SLAVE, NO_BITS], 0, &[NO_BITS_TEXT]),
@@ -183,7 +183,7 @@ const RUNS: &[Run] = &[
     ),
 ];
 
-/// Runs that edit the line print what was worked out by hand. A seventeenth datagram is refused.
+/// Runs that edit the line print the text that was worked out by hand. A seventeenth datagram is refused.
 #[test]
 fn edits_change_the_line(rt: HostRuntime) -> Result<(), Fail> {
     assert_eq!(rt; first_wrong(&rt, rt.alloc(), RUNS)?, None);

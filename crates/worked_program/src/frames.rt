@@ -1,5 +1,5 @@
-//! Runs that write register blocks, send tasks, take what comes back, and read. Each frame was worked out from the
-//! tables of the standard (ETG.1000.4, 5.3 and 5.4) and from where the areas of the one slave are.
+//! Runs that write register blocks, send tasks, take the frames that come back, and read. Each frame was worked out from the
+//! tables of the standard (ETG.1000.4, 5.3 and 5.4) and from the places of the one slave's areas.
 use crate::printed::ONE_SLAVE;
 use crate::rows::{Run, first_wrong};
 use std::test::Fail;
@@ -15,7 +15,7 @@ write
 arrive ffffffffffff02000000000388a41c100503e903100610000000010000010200000380110001010000000100
 ";
 
-/// What that prints.
+/// The output of the four writes.
 const WRITTEN_TEXT: &str =
     "sent 0: ffffffffffff02000000000088a414100500e90310080800000000110100640001000000000000000000000000000000000000000000000000000000
 write done
@@ -27,7 +27,7 @@ sent 3: ffffffffffff02000000000388a41c100503e90310061000000001000001020000038011
 write done
 ";
 
-/// A task is sent before the last answer, and a block written where none is owed.
+/// A task is sent before the last answer, and a block is written when none is owed.
 const TOO_EARLY: &str = "write
 arrive ffffffffffff02000000000088a414100500e90310080800000000110100640001000100
 write
@@ -40,7 +40,7 @@ arrive ffffffffffff02000000000388a41c100503e903100610000000010000010200000380110
 write
 ";
 
-/// What that prints.
+/// The output: the sending is refused with `Unprogrammed`, and the last write with `NothingOwed`.
 const TOO_EARLY_TEXT: &str =
     "sent 0: ffffffffffff02000000000088a414100500e90310080800000000110100640001000000000000000000000000000000000000000000000000000000
 write done
@@ -71,7 +71,7 @@ arrive ffffffffffff02000000000588a41c100505e903100610000000010000010200000380110
 write
 ";
 
-/// What that prints.
+/// The output: the older answer is stale, and the newer one confirms the block.
 const MISSED_TEXT: &str =
     "sent 0: ffffffffffff02000000000088a414100500e90310080800000000110100640001000000000000000000000000000000000000000000000000000000
 write done
@@ -105,7 +105,7 @@ send 8
 send 1
 ";
 
-/// What that prints.
+/// The output of the cycle: the data of the good answer are read, also after the wrong working counter.
 const CYCLE_TEXT: &str = "epoch 0
 slot 0 none
 sent 4: ffffffffffff02000000000488a40f100c04000000010300000000000000000000000000000000000000000000000000000000000000000000000000
@@ -134,7 +134,7 @@ arrive ffffffffffff02000000000488a40f100c04000000010300000002340a0300
 read 0
 ";
 
-/// What that prints.
+/// The output of the edits: the answer to the frame is stale.
 const EDITED_TEXT: &str = "epoch 1 recut 0 moved 0
 epoch 2 recut 0 moved 0
 epoch 3 recut 0 moved 0
@@ -155,7 +155,7 @@ write
 arrive ffffffffffff02000000000588a41c100505e903100610000000000000010200000380110001010000000100
 ";
 
-/// What that prints.
+/// The output of the move and of its two writes.
 const MOVED_TEXT: &str = "epoch 1 recut 2 moved 2
 epoch 1
 task 0 parts 0 2
@@ -169,8 +169,7 @@ sent 5: ffffffffffff02000000000588a41c100505e90310061000000000000001020000038011
 write done
 ";
 
-/// Two tasks share frames, and one frame is sent again; then in the other order, which an answer has to
-/// keep.
+/// Two tasks share frames, and one task is sent again. Then they are sent in the other order, which an answer has to keep.
 const SHARED: &str = "send 0 1
 arrive ffffffffffff02000000000688a41b100c060000000102800000340a01000c060000000201000000020100
 send 0 1
@@ -184,7 +183,7 @@ arrive ffffffffffff02000000000988a41b100c090000000102800000340a01000c09000000020
 arrive ffffffffffff02000000000988a41b100c0900000002018000000202000c090000000102000000360a0100
 ";
 
-/// What that prints.
+/// The output for the shared frames.
 const SHARED_TEXT: &str =
     "sent 6: ffffffffffff02000000000688a41b100c060000000102800000000000000c0600000002010000000000000000000000000000000000000000000000
 inputs 0 0
@@ -221,7 +220,7 @@ arrive FFFFFFFFFFFF02000000000488A40F100C04000000010300000002340A03<zeros 1970>
 read 0
 ";
 
-/// What that prints.
+/// The output: the fault of each unreadable frame, `stale`, and the inputs of the answer.
 const FOREIGN_TEXT: &str =
     "sent 4: ffffffffffff02000000000488a40f100c04000000010300000000000000000000000000000000000000000000000000000000000000000000000000
 refused 20 Short
@@ -252,7 +251,7 @@ arrive ffffffffffff02000000000388a41c100503020000061000000000000002e102000700100
 send 0 1
 ";
 
-/// What that prints.
+/// The output of the writes, and of the one frame that the tasks share.
 const BOTH_TEXT: &str =
     "sent 0: ffffffffffff02000000000088a41410050001000008080000000010e102640001000000<zeros 24>
 write done
@@ -278,7 +277,7 @@ arrive ffffffffffff02000000000388a41c100503020000061000000000000002e102000700100
 send 0 1
 ";
 
-/// What that prints.
+/// The output of the writes, and of the two frames of the tasks.
 const APART_TEXT: &str =
     "sent 0: ffffffffffff02000000000088a41410050001000008080000000010e202640001000000<zeros 24>
 write done
@@ -292,9 +291,9 @@ sent 4: ffffffffffff02000000000488a4ee120c0400000001e2020000<zeros 740>
 sent 5: ffffffffffff02000000000588a4ed120c0500000002e1020000<zeros 739>
 ";
 
-/// Blocks are written; a missed write is sent again; a sending is answered once; an edit ends what is awaited; an area
-/// moves to another task; two tasks share a frame; frames that can't be read are refused. A full frame carries two
-/// tasks, and a byte too long begins another. An index comes again with another serial.
+/// Blocks are written, a missed write is sent again, and a sending is answered once. An edit ends what is awaited, and an area
+/// moves to another task. Two tasks share a frame, and frames that cannot be read are refused. A full frame carries two tasks,
+/// and a byte too long begins another. An index comes again with another serial.
 const RUNS: &[Run] = &[
     (&[ONE_SLAVE, "%%\n", TOO_EARLY], 0, &[TOO_EARLY_TEXT]),
     (&[ONE_SLAVE, "%%\n", MISSED], 0, &[MISSED_TEXT]),

@@ -1,4 +1,4 @@
-//! A run where a task posts and views, over readers and writers that fail.
+//! A run in which a task posts and views, over readers and writers that fail.
 use crate::breaks::{reads_failed, writes_cut, writes_falter};
 use crate::printed::{ONE_SLAVE, joined};
 use std::test::Fail;
@@ -15,7 +15,7 @@ view 0 2
 peek 1001 0x1100 1
 ";
 
-/// What it prints.
+/// The output of the run.
 const BOTH_WAYS_TEXT: &str = "named 1
 written 4 owed 0
 poked

@@ -20,7 +20,7 @@ take
 take
 ";
 
-/// What they print.
+/// The output of five posts, and of posts that are refused.
 const FOUR_WAIT_TEXT: &str = "posted
 posted
 posted
@@ -36,7 +36,7 @@ taken 1 refused 0
 taken 0 refused 0
 ";
 
-/// What is posted goes along the line, and what comes back is viewed.
+/// Posted values are sent along the line, and the inputs that come back are viewed.
 const EXCHANGED: &str = "%%
 name
 program
@@ -57,7 +57,7 @@ cycle 0
 peek 1001 0x1100 1
 ";
 
-/// What they print: of a variable that is named twice the last value stays, and an output that isn't named is 0.
+/// The output of these exchanges. If a variable is named twice, its last value counts. An output that is not named is 0.
 const EXCHANGED_TEXT: &str = "named 1
 written 4 owed 0
 poked
@@ -90,7 +90,7 @@ remap 1001 0 0x1600
 take
 ";
 
-/// What they print.
+/// The output of posts before and after edits: those for an earlier epoch are refused.
 const OVER_EDITS_TEXT: &str = "posted
 epoch 1 recut 0 moved 0
 posted
@@ -102,8 +102,8 @@ epoch 3 recut 1 moved 3
 taken 0 refused 1
 ";
 
-/// Which of several refusals is reported: a task over 7 before all, then the first value that is refused, for its
-/// first reason; and the largest numbers.
+/// Posts with several faults. A task over 7 is reported before all others, then the first value that is refused, by its first
+/// fault. The largest numbers are tried too.
 const JUDGED: &str = "%%
 post 8 1=2
 post 255 9=1
@@ -123,7 +123,7 @@ post 0   0x1=0x03  1=0000
 take
 ";
 
-/// What they print.
+/// The output of the posts with faults.
 const JUDGED_TEXT: &str = "refused 8 NoSuchTask
 refused 8 NoSuchTask
 refused 1 NoSuchVariable
@@ -154,7 +154,7 @@ const RUNS: &[Run] = &[
     ),
 ];
 
-/// Runs with posts print what was worked out by hand: refusals, posts that wait over an edit, and four posts at most.
+/// Runs with posts print the text that was worked out by hand: refusals, posts that wait over an edit, and four posts at most.
 #[test]
 fn tasks_post(rt: HostRuntime) -> Result<(), Fail> {
     assert_eq!(rt; first_wrong(&rt, rt.alloc(), RUNS)?, None);

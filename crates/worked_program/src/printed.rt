@@ -51,7 +51,7 @@ pdo = [{ index = 0x1a00, entries = [[2, 12]] }]
 /// The commands of the first run.
 pub const FIRST_COMMANDS: &str = "%%\nlayout\nregs 1001\nshow 0 0\n";
 
-/// What the first run prints.
+/// The output of the first run.
 pub const FIRST_TEXT: &str = "epoch 0
 task 0 parts 1 2
 datagram 0 address 0x01000000 length 3 expected 3
@@ -62,10 +62,10 @@ fmmu 1 at 0x0610: 01 00 00 01 02 00 00 03 80 11 00 01 01 00 00 00
 frame 0: ffffffffffff02000000000088a40f100c00000000010300000000000000000000000000000000000000000000000000000000000000000000000000
 ";
 
-/// The bytes that a run may print without a growth of the list that takes them.
+/// The most bytes that a run may print without another allocation for the list that takes them.
 pub const ROOM: usize = 16_384;
 
-/// What a run printed, and how it ended.
+/// The output of a run, and its end.
 #[derive(Drop)]
 pub struct Printed {
     pub end: RunEnd,
@@ -73,12 +73,12 @@ pub struct Printed {
 }
 
 impl Printed {
-    /// Whether it ended unstarved with a status and a text.
+    /// True if the run ended unstarved, with this status and text.
     pub fn is(&self, status: u8, text: &str) -> bool {
         !self.end.starved && self.end.status == status && self.text.as_slice() == text.as_bytes()
     }
 
-    /// Whether it said that a growth was refused, or ended while the input was read.
+    /// True if the run printed that an allocation failed, or ended while the input was read.
     fn says_memory(&self) -> bool {
         match self.end.status {
             3 => {
@@ -91,7 +91,7 @@ impl Printed {
     }
 }
 
-/// Whether a text has a line of a command that was refused a growth.
+/// True if a text has the line of a command whose allocation failed.
 fn has_memory_line(text: &[u8]) -> bool {
     text.windows(18)
         .any(|part| part == b"refused 28 Memory\n".as_slice())
@@ -112,8 +112,8 @@ fn run<R: Threads + Wait + Sync>(
     Ok(Printed { end, text })
 }
 
-/// Whether an input ends with a status and a text. `AllocError` where a growth was refused and the run
-/// said so; false where it didn't say so.
+/// True if an input ends with this status and text. Fails if an allocation failed and the run printed so. False if the run did
+/// not print so.
 pub fn ends_as<R: Threads + Wait + Sync>(
     rt: &R,
     alloc: Global,

@@ -5,12 +5,12 @@ use std::sync::Wait;
 use std::test::Fail;
 use std::thread::Threads;
 
-/// A run: the pieces of its input, its status, and the pieces of its text. A piece may have marks, which are written out:
-/// `<entries N>`, `<pdos N>` and `<slaves A B T N>` have N bits, `<groups A B>` have a slave each, `<zeros N>` are N bytes
-/// 0, and `<sends A B>` and `<sent A B>` are sendings of the task of `ONE_SLAVE`, and what they print.
+/// A run: the pieces of its input, its status, and the pieces of its text. A piece may have marks, which are written out.
+/// `<entries N>`, `<pdos N>` and `<slaves A B T N>` have N bits, `<groups A B>` have a slave each, and `<zeros N>` are N bytes
+/// 0. `<sends A B>` and `<sent A B>` are sendings of the task of `ONE_SLAVE`, and their output.
 pub type Run = (&'static [&'static str], u8, &'static [&'static str]);
 
-/// Adds gaps that have so many bits together, at most 4,096.
+/// Adds gaps of this many bits together, at most 4,096.
 fn push_entries(text: &mut String, bits: u32) -> Result<(), AllocError> {
     let mut left = bits;
     for _ in 0..64 {
@@ -24,7 +24,7 @@ fn push_entries(text: &mut String, bits: u32) -> Result<(), AllocError> {
     Ok(())
 }
 
-/// Adds the PDOs 1 to 3, which have so many bits together.
+/// Adds the PDOs 1 to 3, with this many bits together.
 fn push_pdos(text: &mut String, bits: u32) -> Result<(), AllocError> {
     let mut left = bits;
     for index in 1..4 {
@@ -37,7 +37,7 @@ fn push_pdos(text: &mut String, bits: u32) -> Result<(), AllocError> {
     Ok(())
 }
 
-/// Adds mandatory slaves with stations from one to another, each with an output area of a task with so many bits.
+/// Adds mandatory slaves with stations from one to another, each with an output area of a task with this many bits.
 fn push_slaves(
     text: &mut String,
     from: u32,
@@ -66,7 +66,7 @@ fn push_groups(text: &mut String, from: u32, to: u32) -> Result<(), AllocError> 
     Ok(())
 }
 
-/// Adds so many bytes 0, as a frame's bytes are printed.
+/// Adds this many bytes 0, as a frame's bytes are printed.
 fn push_zeros(text: &mut String, count: u32) -> Result<(), AllocError> {
     for _ in 0..count {
         text.push_str("00")?;
@@ -74,7 +74,7 @@ fn push_zeros(text: &mut String, count: u32) -> Result<(), AllocError> {
     Ok(())
 }
 
-/// Adds what is printed of sendings with serials from one to another.
+/// Adds the output of sendings with serials from one to another.
 fn push_sent(text: &mut String, from: u32, to: u32) -> Result<(), AllocError> {
     for serial in from..=to {
         let index = serial % 256;
@@ -86,7 +86,7 @@ fn push_sent(text: &mut String, from: u32, to: u32) -> Result<(), AllocError> {
     Ok(())
 }
 
-/// Adds what a mark stands for.
+/// Adds the text of a mark.
 fn push_mark(text: &mut String, mark: &str) -> Result<(), Fail> {
     let mut numbers = [0; 4];
     let mut words = mark.split(' ');
@@ -134,14 +134,14 @@ pub fn written(alloc: Global, pieces: &[&str]) -> Result<String, Fail> {
     Ok(text)
 }
 
-/// Whether a run ends as it is to.
+/// True if a run ends with its status and its text.
 fn is_run<R: Threads + Wait + Sync>(rt: &R, alloc: Global, run: &Run) -> Result<bool, Fail> {
     let input = written(alloc, run.0)?;
     let text = written(alloc, run.2)?;
     Ok(ends_as(rt, alloc, input.as_bytes(), run.1, text.as_str())?)
 }
 
-/// The number of the first run that doesn't end as it is to, none where all do.
+/// The number of the first run that ends otherwise. None if there is none.
 pub fn first_wrong<R: Threads + Wait + Sync>(
     rt: &R,
     alloc: Global,

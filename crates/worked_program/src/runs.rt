@@ -1,4 +1,4 @@
-//! Runs that print what their commands ask for.
+//! Runs with the commands that print.
 use crate::printed::{FIRST_COMMANDS, FIRST_TEXT, ONE_SLAVE};
 use crate::rows::{Run, first_wrong};
 use std::test::Fail;
@@ -22,7 +22,7 @@ assigned = [1]
 pdo = [{ index = 1, entries = [[0, 3]] }]
 "#;
 
-/// An input area of 1 bit for the first of them.
+/// An input area of 1 bit for the first of the two slaves.
 const ONE_BIT: &str = r#"[[slave.area]]
 sm = 2
 dir = "in"
@@ -32,7 +32,7 @@ assigned = [1]
 pdo = [{ index = 1, entries = [[0, 1]] }]
 "#;
 
-/// The second of them.
+/// The second of the two slaves.
 const SECOND_SLAVE: &str = r#"[[slave]]
 station = 2
 [[slave.area]]
@@ -44,7 +44,7 @@ assigned = [1]
 pdo = [{ index = 1, entries = [[0, 3]] }]
 "#;
 
-/// What `layout` and `regs` print of them.
+/// The output of `layout` and `regs` for these two slaves.
 const SHARED_TEXT: &str = "epoch 0
 task 0 parts 2 0
 datagram 0 address 0x01000000 length 2 expected 4
@@ -95,7 +95,7 @@ pdo = [{ index = 7, entries = [[24, 1]] }]
 const REFUSED: &str =
     "%%\nregs 5\nregs 6\nregs 7\nregs 0\nshow 8 0\nshow 255 255\nshow 7 15\nshow 0 16\nlayout\n";
 
-/// What they print.
+/// The output of the refused commands, and of `layout` after them.
 const REFUSED_TEXT: &str = "refused 6 Absent
 refused 5 UnknownStation
 refused 5 UnknownStation
@@ -106,7 +106,7 @@ none
 epoch 0
 ";
 
-/// Where variables are, and some that don't.
+/// The places of two variables, and of three numbers without one.
 const PLACES: &str = "var 1 task 0 datagram 0 bit 0 bits 2 dir out
 var 2 task 0 datagram 0 bit 8 bits 12 dir in
 none
@@ -114,7 +114,7 @@ none
 none
 ";
 
-/// Variables after earlier bits, and some that aren't assigned or present.
+/// Variables after earlier bits, and some that are not assigned or present.
 const LATER_PLACES: &str = "var 21 task 3 datagram 0 bit 5 bits 64 dir out
 none
 var 23 task 3 datagram 0 bit 0 bits 1 dir out
@@ -172,7 +172,7 @@ const RUNS: &[Run] = &[
     ),
 ];
 
-/// Runs of each printing command print what was worked out by hand, and go on after refused commands.
+/// Runs of each printing command print the text that was worked out by hand, and go on after refused commands.
 #[test]
 fn commands_print_what_they_ask_for(rt: HostRuntime) -> Result<(), Fail> {
     assert_eq!(rt; first_wrong(&rt, rt.alloc(), RUNS)?, None);

@@ -3,7 +3,7 @@ use crate::printed::{ONE_IN_GROUP, ONE_SLAVE};
 use crate::rows::{Run, first_wrong};
 use std::test::Fail;
 
-/// A group that comes again has fresh machines.
+/// A group that is connected again has fresh machines.
 const COMES_AGAIN: &str = "%%
 connect 100
 name
@@ -18,7 +18,7 @@ cycle 0
 scan
 ";
 
-/// What it prints.
+/// The output for the group that is connected again.
 const COMES_AGAIN_TEXT: &str = "epoch 1 recut 1 moved 4
 named 1
 written 4 owed 0
@@ -32,7 +32,7 @@ inputs 0 0
 slot 0 alias 100
 ";
 
-/// Inputs are brought from a machine's memory, and a machine whose FMMU isn't active isn't met.
+/// Inputs are brought from a machine's memory. An FMMU that is not active carries nothing.
 const MEMORIES: &str = "%%
 name
 program
@@ -50,7 +50,7 @@ cycle 1
 cycle 8
 ";
 
-/// What they print.
+/// The output of the exchanges, with the working counters after each FMMU was switched off.
 const MEMORIES_TEXT: &str = "named 1
 written 4 owed 0
 poked
@@ -69,8 +69,8 @@ no frame
 refused 8 NoSuchTask
 ";
 
-/// Station addresses and aliases that were written over: a slave with another station address takes no write, and none
-/// takes a write alone where two have one.
+/// Station addresses and aliases that are written over. No write is confirmed while the first slave has another station
+/// address, also if it is the second one's.
 const OVERWRITTEN: &str = "%%
 scan
 name
@@ -86,7 +86,7 @@ scan
 program
 ";
 
-/// What they print.
+/// The output: all four blocks are written once the first slave has its address again.
 const OVERWRITTEN_TEXT: &str = "slot 0 alias 0
 slot 1 alias 0
 named 2
@@ -111,7 +111,7 @@ const TWO_GROUPS: &str = "slave = [{ station = 5 }]
 group = [{ alias = 10, slave = [{ station = 11 }] }, { alias = 20, slave = [{ station = 21 }, { station = 22 }, { station = 23 }] }]
 ";
 
-/// The others keep their memory over an edit, wherever a group comes or goes.
+/// The other slaves keep their memory over an edit, wherever in the line a group is connected or disconnected.
 const UNCHANGED: &str = "%%
 peek 21 0x1000 1
 peek 24 0x1000 1
@@ -135,7 +135,7 @@ scan
 name
 ";
 
-/// What they print.
+/// The output of the edits, with the memories of the slaves.
 const UNCHANGED_TEXT: &str = "refused 6 Absent
 refused 5 UnknownStation
 epoch 1 recut 0 moved 0
@@ -173,7 +173,7 @@ named 4
 const LAST_BYTE: &str =
     "%%\npoke 1001 0x2fff 7F\npeek 1001 12287 1\npeek 1001 0x2ffe 2\npoke 7 0 00\n";
 
-/// What it prints.
+/// The output for the last byte, and for a station that is not declared.
 const LAST_BYTE_TEXT: &str = "poked\nmem 0x2fff: 7f\nmem 0x2ffe: 00 7f\nrefused 5 UnknownStation\n";
 
 const RUNS: &[Run] = &[
@@ -189,8 +189,8 @@ const RUNS: &[Run] = &[
     ),
 ];
 
-/// Runs along the simulated line print what was worked out by hand. Slaves keep their memory over an edit, and groups that come
-/// again are fresh.
+/// Runs along the simulated line print the text that was worked out by hand. Slaves keep their memory over an edit, and groups
+/// that are connected again are fresh.
 #[test]
 fn frames_go_along_the_line(rt: HostRuntime) -> Result<(), Fail> {
     assert_eq!(rt; first_wrong(&rt, rt.alloc(), RUNS)?, None);

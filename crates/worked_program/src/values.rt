@@ -1,10 +1,10 @@
-//! Values that are posted where variables are, and where they go from there.
+//! Posted values, which are sent at the places of their variables and move with them.
 use crate::printed::ONE_SLAVE;
 use crate::rows::{Run, first_wrong};
 use std::test::Fail;
 
-/// A post of an epoch that is gone isn't accepted; a value that was is kept where its variable goes to another task, and is
-/// lost with its variable's place.
+/// A post for an earlier epoch is refused. An accepted value is kept when its variable moves to another task, and lost when the
+/// variable loses its place.
 const EPOCHS: &str = "%%
 name
 program
@@ -27,7 +27,7 @@ show 1 0
 program
 ";
 
-/// What they print.
+/// The output of posts over several epochs.
 const EPOCHS_TEXT: &[&str] = &[
     "named 1
 written 4 owed 0
@@ -69,7 +69,7 @@ assigned = [8, 1, 2, 3]
 pdo = [{ index = 8, entries = [[24, 8]] }, <pdos 11816>]
 "#;
 
-/// Values of some of its variables, and of none.
+/// Posts of values of some of the variables, and of none.
 const WIDE_VALUES: &str = "%%
 post 3 21=18446744073709551615 23=1
 take
@@ -84,7 +84,7 @@ show 3 0
 show 3 1
 ";
 
-/// What they print.
+/// The output of these posts, with the task's two datagrams.
 const WIDE_TEXT: &[&str] = &[
     "posted\ntaken 1 refused 0\n",
     "frame 0: ffffffffffff02000000000088a415100c000000000409000000e1ffffffffffffff1f<zeros 25>\n",

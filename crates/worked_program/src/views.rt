@@ -1,9 +1,9 @@
-//! What tasks view after what the master accepted, and posts that are taken.
+//! Views of tasks after the master's calls, and posts that are taken.
 use crate::printed::{ONE_IN_GROUP, ONE_SLAVE};
 use crate::rows::{Run, first_wrong};
 use std::test::Fail;
 
-/// Each refusal in its order, and values that come with good answers alone.
+/// Each refusal of a view in its order, and values, which come with good answers alone.
 const VALUES: &str = "%%
 view 0 2
 view 0 1
@@ -32,7 +32,7 @@ remap 1001 1 0x1a00
 view 0 2
 ";
 
-/// What they print.
+/// The output of these views.
 const VALUES_TEXT: &str = "refused 4 NotAnswered
 refused 2 IsOutput
 refused 2 IsOutput
@@ -60,7 +60,7 @@ epoch 1 recut 0 moved 0
 refused 4 NotAnswered
 ";
 
-/// A frame that arrives is viewed too, and one that is stale changes nothing.
+/// The inputs of a frame that arrives are viewed too, and a stale frame changes nothing.
 const ARRIVED: &str = "%%
 name
 program
@@ -72,7 +72,7 @@ arrive ffffffffffff02000000000488a40f100c04000000010300000002ffff0300
 view 0 2
 ";
 
-/// What they print.
+/// The output for the two arrivals.
 const ARRIVED_TEXT: &str = "named 1
 written 4 owed 0
 sent 4: ffffffffffff02000000000488a40f100c04000000010300000000000000000000000000000000000000000000000000000000000000000000000000
@@ -83,7 +83,7 @@ stale
 epoch 0 var 2 value 2612
 ";
 
-/// A variable comes with its group, goes to another task with its area, and goes with its group.
+/// A variable appears with its group, moves to another task with its area, and disappears with its group.
 const COMES_AND_GOES: &str = "%%
 view 0 2
 connect 100
@@ -103,7 +103,7 @@ disconnect 100
 view 3 2
 ";
 
-/// What they print.
+/// The output for the group's variable.
 const COMES_AND_GOES_TEXT: &str = "refused 1 NoSuchVariable
 epoch 1 recut 1 moved 4
 refused 4 NotAnswered

@@ -116,7 +116,7 @@ datagram 2 address 0x01001000 length 1400 expected 2
 datagram 3 address 0x01001800 length 1400 expected 1
 ";
 
-/// What `layout` prints of sixteen slaves of 1,400 bytes.
+/// The output of `layout` for sixteen slaves of 1,400 bytes.
 const SIXTEEN_DATAGRAMS: &str = "epoch 0
 task 0 parts 22400 0
 datagram 0 address 0x01000000 length 1400 expected 2
@@ -149,7 +149,7 @@ assigned = [1]
 pdo = [<pdos 11889>]
 "#;
 
-/// An area isn't made wider than a datagram.
+/// An area is not made wider than a datagram.
 const NOT_WIDER: &str = "refused 11 AreaTooBig
 epoch 1 recut 1 moved 2
 epoch 1

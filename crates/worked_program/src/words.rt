@@ -162,7 +162,7 @@ const NO_COMMANDS: &[&str] = &[
     "peek 7 0x2fff 2",
 ];
 
-/// The first of the lines that is a command after one that is; none where none is.
+/// The first of these lines that is not refused as a bad command after `layout`. None if there is none.
 fn first_command<R: Threads + Wait + Sync>(
     rt: &R,
     alloc: Global,
@@ -207,7 +207,7 @@ read 0
 read 0xff
 ";
 
-/// What they print.
+/// The output of these commands.
 const EMPTY_LINE_TEXT: &str = "epoch 0
 no frame
 no frame
@@ -322,7 +322,7 @@ const RUNS: &[Run] = &[
     (&["%%\r\n\r\n"], 0, &[]),
 ];
 
-/// Lines and words are parted as the format says, and project text that isn't UTF-8 is refused with `NotToml`.
+/// Lines and words are parted as the format says, and project text that is not UTF-8 is refused with `NotToml`.
 #[test]
 fn lines_and_words(rt: HostRuntime) -> Result<(), Fail> {
     assert_eq!(rt; first_wrong(&rt, rt.alloc(), RUNS)?, None);

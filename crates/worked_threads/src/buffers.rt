@@ -5,8 +5,8 @@ use hc_rings::{Full, LARGEST_IMAGE, NoSpare, PostFault, post_ring};
 use std::alloc::{AllocError, Global};
 use std::test::Fail;
 
-/// Whether a full ring hands a buffer of another ring back, with its epoch and its bytes. Given back to it after its own four the
-/// buffer finds no place among the spares, and is dropped.
+/// True if a full ring hands back a buffer of another ring, with its epoch and its bytes. If that buffer is given back to it
+/// after its own four, it has no place among the spares and is dropped.
 fn hands_back(alloc: Global) -> Result<bool, AllocError> {
     let (mut sender, mut receiver) = post_ring(alloc)?;
     let (mut other, _) = post_ring(alloc)?;
@@ -28,7 +28,7 @@ fn hands_back(alloc: Global) -> Result<bool, AllocError> {
 
 const THREE_POSTS: [Step; 3] = [Post(0, [0, 0, 0]), Post(1, [0, 0, 0]), Post(2, [0, 0, 0])];
 
-/// What is done once the ring is full.
+/// The steps once the ring is full.
 const HELD_LAST: [Step; 7] = [
     Held(Err(PostFault::Full)),
     Take(Taking::Post(0, [0, 0, 0])),
@@ -39,8 +39,8 @@ const HELD_LAST: [Step; 7] = [
     Take(Taking::Post(70, [5, 5, 5])),
 ];
 
-/// Whether a ring that was filled with a buffer of another ring keeps the buffer that is held for the epoch 70, and it is posted
-/// as the last one.
+/// True if a ring that was filled with a buffer of another ring keeps the buffer that is held for the epoch 70, and posts it
+/// last.
 fn keeps_held(alloc: Global) -> Result<bool, AllocError> {
     let (mut sender, mut receiver) = post_ring(alloc)?;
     let (mut other, _) = post_ring(alloc)?;

@@ -1,4 +1,4 @@
-//! Chains of one, two and four segments, and that their threads run at once.
+//! Chains of one, two and four segments, whose threads run at once.
 use crate::gates::{Counts, Holds, Meets, Open};
 use crate::pieces::{frame_of, is_placed, put};
 use hc_lend::Gate;
@@ -62,7 +62,7 @@ fn bytes_of(
     Ok(bytes)
 }
 
-/// What is left of the frames and of segments of this size where each segment begins once the one before it is done.
+/// The frames and memories that segments of this size leave, if each segment begins once the one before it is done.
 fn left_in_turn<G: Gate>(alloc: Global, size: u8, gate: &G) -> Result<Vec<u8>, AllocError> {
     let mut segments = segments_of(alloc, size)?;
     let mut frames = frames_of(alloc)?;
@@ -75,7 +75,7 @@ fn left_in_turn<G: Gate>(alloc: Global, size: u8, gate: &G) -> Result<Vec<u8>, A
     bytes_of(alloc, &frames, &segments)
 }
 
-/// What is left of them in a chain.
+/// The frames and memories that segments of this size leave in a chain.
 fn left_in_chain<R: Threads + Wait + Sync, G: Gate + Sync>(
     rt: &R,
     alloc: Global,
@@ -111,8 +111,8 @@ fn chains_are_one_segment(rt: HostRuntime) -> Result<(), Fail> {
     Ok(())
 }
 
-/// A body that begins with a segment once the one before it is done gives the frames and machines that `chain` gives; the
-/// gate alone gives.
+/// A body in which each segment begins once the one before it is done leaves the same frames and machines as `chain`. Only the
+/// gate tells the two apart.
 #[test]
 fn segments_run_at_once(rt: HostRuntime) -> Result<(), Fail> {
     let alloc = rt.alloc();
@@ -124,7 +124,7 @@ fn segments_run_at_once(rt: HostRuntime) -> Result<(), Fail> {
     Ok(())
 }
 
-/// Which of the four segments of a chain is held, and for which other one.
+/// Pairs of the four segments of a chain: the one that is held, and the one for which it is held.
 const PAIRS: [(usize, usize); 12] = [
     (0, 1),
     (0, 2),
@@ -157,7 +157,7 @@ fn each_segment_begins_before_frames_come(rt: HostRuntime) -> Result<(), Fail> {
     Ok(())
 }
 
-/// Each of the four segments calls the gate once, and nobody else does; so does each of eight.
+/// In a chain of four segments, and in one of eight, each segment calls the gate once, and nobody else does.
 #[test]
 fn each_segment_calls_the_gate_once(rt: HostRuntime) -> Result<(), Fail> {
     let alloc = rt.alloc();
@@ -171,7 +171,7 @@ fn each_segment_calls_the_gate_once(rt: HostRuntime) -> Result<(), Fail> {
     Ok(())
 }
 
-/// Whether each machine's mapped byte is one more than in the machine before it; the first has this one.
+/// True if each machine's mapped byte is one more than that of the machine before it. The first machine has this one.
 fn bytes_ascend(segments: &[Segment], first: u8) -> bool {
     let mut wanted = first;
     for segment in segments {
@@ -185,8 +185,8 @@ fn bytes_ascend(segments: &[Segment], first: u8) -> bool {
     true
 }
 
-/// Whether one frame of 64 bytes came out. Each slave's byte was 100 and its place; each of the eight counts 1 for a read and
-/// 2 for a write.
+/// True if one frame of 64 bytes came out, with 100 and its place as each slave's byte. Each of the eight counts 1 for a read
+/// and 2 for a write.
 fn is_answered(out: &[FrameBox]) -> bool {
     match out {
         [frame] => {
@@ -197,7 +197,8 @@ fn is_answered(out: &[FrameBox]) -> bool {
     }
 }
 
-/// The sweep refuses each growth of this test in turn: the machines are then as they were.
+/// A chain whose allocation fails leaves the machines as they were. `ci/sweep.sh` makes each allocation of this test fail in
+/// turn.
 #[test]
 fn machines_stay_where_a_chain_is_refused(rt: HostRuntime) -> Result<(), Fail> {
     let alloc = rt.alloc();

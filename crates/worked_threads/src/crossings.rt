@@ -5,13 +5,13 @@ use hc_rings::{
 use std::test::Fail;
 use std::thread;
 
-/// How often a thread looks again before it gives up.
+/// The number of looks after which a thread gives up.
 const TURNS: u32 = 10_000_000;
 
-/// How many posts go from thread to thread.
+/// The number of posts that go from thread to thread.
 const POSTS: u32 = 500;
 
-/// Posts `POSTS` posts, each as soon as a buffer is back, and answers whether it could.
+/// Posts `POSTS` posts, each as soon as a buffer is back. True if all are posted.
 fn post_all(mut sender: PostSender) -> bool {
     for number in 0..POSTS {
         if !post_waiting(&mut sender, number) {
@@ -21,7 +21,7 @@ fn post_all(mut sender: PostSender) -> bool {
     true
 }
 
-/// Posts the post with this number once a buffer is free, and answers whether it could; gives up after `TURNS` turns.
+/// Posts the post with this number once a buffer is free. True if it is posted within `TURNS` turns.
 fn post_waiting(sender: &mut PostSender, number: u32) -> bool {
     for _ in 0..TURNS {
         if let Ok(mut buffer) = sender.buffer() {
@@ -34,7 +34,7 @@ fn post_waiting(sender: &mut PostSender, number: u32) -> bool {
     false
 }
 
-/// Takes `POSTS` posts, and answers whether they came as they were posted, in order, and then the end.
+/// Takes `POSTS` posts. True if they come as they were posted, in order, and then the end.
 fn take_all(mut receiver: PostReceiver) -> bool {
     for number in 0..POSTS {
         if !takes_waiting(&mut receiver, number) {
@@ -44,7 +44,7 @@ fn take_all(mut receiver: PostReceiver) -> bool {
     sees_end(&mut receiver)
 }
 
-/// Whether the post with this number comes. Its buffer is given back.
+/// Takes the next post within `TURNS` turns, and gives its buffer back. True if it is the one with this number.
 fn takes_waiting(receiver: &mut PostReceiver, number: u32) -> bool {
     for _ in 0..TURNS {
         if let Some(buffer) = receiver.take() {
@@ -58,7 +58,7 @@ fn takes_waiting(receiver: &mut PostReceiver, number: u32) -> bool {
     false
 }
 
-/// Whether the end comes, and no post before it.
+/// True if the end comes within `TURNS` turns, and no post is left.
 fn sees_end(receiver: &mut PostReceiver) -> bool {
     for _ in 0..TURNS {
         if receiver.finish() == Some(0) {
@@ -78,10 +78,10 @@ fn posts_go_from_thread_to_thread(rt: HostRuntime) -> Result<(), Fail> {
     Ok(())
 }
 
-/// How many frames go from thread to thread, each of its number and 1.
+/// The number of frames that go from thread to thread. Each holds its number and 1.
 const FRAMES: u32 = 12;
 
-/// Sends each frame as soon as there is a place, and answers whether it could.
+/// Sends each frame as soon as there is a place. True if all are sent.
 fn send_all(mut sender: FrameSender, frames: Vec<FrameBox>) -> bool {
     for frame in frames {
         if !send_waiting(&mut sender, frame) {
@@ -91,7 +91,7 @@ fn send_all(mut sender: FrameSender, frames: Vec<FrameBox>) -> bool {
     true
 }
 
-/// Sends a frame once the ring has a place, and answers whether it could; gives up after `TURNS` turns.
+/// Sends a frame once the ring has a place. True if it is sent within `TURNS` turns.
 fn send_waiting(sender: &mut FrameSender, frame: FrameBox) -> bool {
     let mut frame = frame;
     for _ in 0..TURNS {
@@ -104,7 +104,7 @@ fn send_waiting(sender: &mut FrameSender, frame: FrameBox) -> bool {
     false
 }
 
-/// Takes `FRAMES` frames, and answers whether they came as they were sent, in order.
+/// Takes `FRAMES` frames. True if they come as they were sent, in order, and no other one.
 fn take_frames(mut receiver: FrameReceiver) -> bool {
     for number in 0..FRAMES {
         if !takes_frame_waiting(&mut receiver, number) {
@@ -114,7 +114,7 @@ fn take_frames(mut receiver: FrameReceiver) -> bool {
     receiver.take().is_none()
 }
 
-/// Whether the frame with this number comes.
+/// Takes the next frame within `TURNS` turns. True if it is the one with this number.
 fn takes_frame_waiting(receiver: &mut FrameReceiver, number: u32) -> bool {
     for _ in 0..TURNS {
         if let Some(frame) = receiver.take() {

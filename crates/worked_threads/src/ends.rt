@@ -1,4 +1,4 @@
-//! What a receiver says of the end of a ring. It is proved here that no `take` is in vain before it.
+//! A receiver at the end of a ring. It is proved here that each `take` before the end finds a post.
 ghost use Rattle.std.specs.Prelude.{◌≡◌, IfSome};
 ghost use Rattle.hc_rings.specs.Ring.{taken, posted, ArePostEnds, EndCameAfter};
 ghost use Rattle.hc_rings.specs.Finished.{all_posted, IsEndOf};
@@ -8,8 +8,8 @@ use hc_rings::{PostReceiver, PostSender, PostsEnd, post_ring};
 use std::alloc::{AllocError, Global};
 use std::test::Fail;
 
-/// Takes what is left once the sender is gone. It is proved that no `take` is in vain, and that what was taken is then all
-/// that was posted.
+/// Takes the posts that are left once the sender is gone, and returns their number. It is proved that each `take` finds a post,
+/// and that the taken posts are then all that were posted.
 pub fn take_what_is_left(receiver: &mut PostReceiver) -> Option<u32>
     ensures { IfSome result (λ _. EndCameAfter receiver.new (taken receiver.new)) }
 {
@@ -23,7 +23,7 @@ pub fn take_what_is_left(receiver: &mut PostReceiver) -> Option<u32>
     Some(count)
 }
 
-/// How many posts are left at the opening, after two posts, and after a taking; none where one of them fails.
+/// The numbers of posts that are left at the opening, after two posts, and after a taking. None if a post or the taking fails.
 fn left_beside(alloc: Global) -> Result<Option<[u32; 3]>, AllocError> {
     let (mut sender, mut receiver) = post_ring(alloc)?;
     let opening = receiver.beside(&mut sender);
@@ -37,8 +37,8 @@ fn left_beside(alloc: Global) -> Result<Option<[u32; 3]>, AllocError> {
     Ok(Some([opening, posted, receiver.beside(&mut sender)]))
 }
 
-/// Takes what is left once the sender has finished. It is proved that no `take` is in vain, and that what was taken is then
-/// all that was posted.
+/// Takes the posts that are left once the sender has finished, and returns their number. It is proved that each `take` finds a
+/// post, and that the taken posts are then all that were posted.
 fn take_up_to(receiver: &mut PostReceiver, end: &mut PostsEnd) -> u32
     requires { IsEndOf end.old receiver.old }
     ensures { taken receiver.new ≡ all_posted end.old }
@@ -53,8 +53,8 @@ fn take_up_to(receiver: &mut PostReceiver, end: &mut PostsEnd) -> u32
     count
 }
 
-/// Finishes the sender and takes what is left, with the number of these posts. It is proved that what was taken is then all
-/// that was posted.
+/// Finishes the sender, takes the posts that are left, and returns their number. It is proved that the taken posts are then all
+/// that were posted.
 fn finish_and_take(sender: PostSender, receiver: &mut PostReceiver) -> Option<u32>
     requires { ArePostEnds sender receiver.old }
     ensures { IfSome result (λ _. taken receiver.new ≡ posted sender) }
@@ -63,8 +63,8 @@ fn finish_and_take(sender: PostSender, receiver: &mut PostReceiver) -> Option<u3
     Some(take_up_to(receiver, &mut end))
 }
 
-/// How many posts a finished sender leaves of three, where the first is taken and a buffer is held; none where they can't be
-/// posted or the end isn't seen.
+/// The number of posts that a finished sender leaves of three, if the first is taken and a buffer is held. None if they cannot
+/// be posted, or the end is not seen.
 fn left_by_finished(alloc: Global) -> Result<Option<u32>, AllocError> {
     let (mut sender, mut receiver) = post_ring(alloc)?;
     let first = post(&mut sender, 0, &[2, 2, 2]);
@@ -78,8 +78,8 @@ fn left_by_finished(alloc: Global) -> Result<Option<u32>, AllocError> {
     Ok(if is_begun && is_ended { left } else { None })
 }
 
-/// Both ends know how many posts are left: beside one another, and after the sender has finished. A sender without a receiver
-/// can't finish.
+/// Both ends know the number of posts that are left: beside one another, and after the sender has finished. A sender without a
+/// receiver cannot finish.
 #[test]
 fn the_ends_say_what_is_left(rt: HostRuntime) -> Result<(), Fail> {
     let alloc = rt.alloc();

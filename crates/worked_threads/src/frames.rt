@@ -7,7 +7,7 @@ use hc_rings::{FrameBox, FrameReceiver, FrameSender, LARGEST_FRAME, frame_ring};
 use std::alloc::{AllocError, Global};
 use std::test::Fail;
 
-/// Whether a frame of these bytes is sent.
+/// Sends a frame of these bytes. True if the ring takes it.
 fn is_sent(alloc: Global, sender: &mut FrameSender, bytes: &[u8]) -> Result<bool, AllocError>
     requires { length bytes.now ≤ LARGEST_FRAME }
     ensures { OnOk result (SameFrameSender sender.old sender.new) }
@@ -16,7 +16,7 @@ fn is_sent(alloc: Global, sender: &mut FrameSender, bytes: &[u8]) -> Result<bool
     Ok(sender.send(frame).is_ok())
 }
 
-/// The frame of these bytes that a full ring hands back; none where it takes it.
+/// The frame of these bytes that a full ring hands back. None if the ring takes it.
 fn refused(
     alloc: Global,
     sender: &mut FrameSender,
@@ -29,7 +29,7 @@ fn refused(
     Ok(sender.send(frame).err())
 }
 
-/// Whether the next frame has these bytes.
+/// Takes the next frame. True if it has these bytes.
 fn gives(receiver: &mut FrameReceiver, bytes: &[u8]) -> bool
     ensures { SameFrameReceiver receiver.old receiver.new }
 {
@@ -39,7 +39,7 @@ fn gives(receiver: &mut FrameReceiver, bytes: &[u8]) -> bool
     }
 }
 
-/// Whether two frames are sent into a ring for two, and are then counted.
+/// Sends two frames into an empty ring. True if both are sent, and are then counted.
 fn sends_two(
     alloc: Global,
     sender: &mut FrameSender,
@@ -53,7 +53,7 @@ fn sends_two(
     Ok(was_empty && sent && receiver.beside(sender) == 2)
 }
 
-/// Whether a frame that was handed back is sent after the first two, and all three come in order.
+/// Takes the first frame, and sends the one that was handed back. True if all three come in order.
 fn come_in_order(sender: &mut FrameSender, receiver: &mut FrameReceiver, back: FrameBox) -> bool
     requires { AreFrameEnds sender.old receiver.old }
 {
@@ -65,7 +65,7 @@ fn come_in_order(sender: &mut FrameSender, receiver: &mut FrameReceiver, back: F
     first && sent && second && left == 1 && third && receiver.take().is_none()
 }
 
-/// Whether two frames and one that was handed back go through a ring for two.
+/// True if two frames, and one that was handed back, go through a ring for two in order.
 fn go_in_order(alloc: Global) -> Result<bool, AllocError> {
     let (mut sender, mut receiver) = frame_ring(alloc, 2)?;
     let two = sends_two(alloc, &mut sender, &mut receiver)?;
@@ -79,7 +79,7 @@ fn go_in_order(alloc: Global) -> Result<bool, AllocError> {
     })
 }
 
-/// Whether a ring with no room hands a frame back, and nothing is left.
+/// True if a ring without room hands a frame back, and nothing is left in it.
 fn has_no_room(alloc: Global) -> Result<bool, AllocError> {
     let (mut sender, mut receiver) = frame_ring(alloc, 0)?;
     let is_back = match refused(alloc, &mut sender, &[8])? {

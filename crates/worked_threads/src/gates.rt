@@ -3,7 +3,7 @@ use hc_lend::Gate;
 use std::sync::atomic::{AtomicBool, AtomicU64, Ordering};
 use std::thread;
 
-/// Lets every worker pass.
+/// A gate that lets every worker pass.
 #[derive(Drop)]
 pub struct Open;
 
@@ -11,7 +11,8 @@ impl Gate for Open {
     fn begun(&self, _worker: usize) {}
 }
 
-/// The worker `holder` is held until the worker `other` has begun, for at most 1,000,000 turns, and yields in each.
+/// A gate that holds the worker `holder` until the worker `other` has begun, for at most 1,000,000 turns. The worker yields in
+/// each.
 #[derive(Drop)]
 pub struct Holds {
     holder: usize,
@@ -21,7 +22,7 @@ pub struct Holds {
 }
 
 impl Holds {
-    /// One worker is held for another.
+    /// A gate that holds one worker for another.
     pub fn of(holder: usize, other: usize) -> Holds {
         Holds {
             holder,
@@ -31,7 +32,7 @@ impl Holds {
         }
     }
 
-    /// Whether the holder saw that the other one has begun.
+    /// True if the holder saw that the other one has begun.
     pub fn has_seen(&self) -> bool {
         self.other_was_seen.load(Ordering::SeqCst)
     }
@@ -55,7 +56,7 @@ impl Gate for Holds {
     }
 }
 
-/// Each worker is held until all have begun, for at most 1,000,000 turns, and yields in each.
+/// A gate that holds each worker until all have begun, for at most 1,000,000 turns. The worker yields in each.
 #[derive(Drop)]
 pub struct Meets {
     workers: u64,
@@ -73,7 +74,7 @@ impl Meets {
         }
     }
 
-    /// How many workers saw that all had begun.
+    /// The number of workers that saw that all had begun.
     pub fn met(&self) -> u64 {
         self.met.load(Ordering::SeqCst)
     }
@@ -92,14 +93,14 @@ impl Gate for Meets {
     }
 }
 
-/// Counts how often each of eight workers has begun.
+/// A gate that counts how often each of eight workers has begun.
 #[derive(Drop)]
 pub struct Counts {
     begun: [AtomicU64; 8],
 }
 
 impl Counts {
-    /// None has begun.
+    /// A gate at which no worker has begun.
     pub fn of_none() -> Counts {
         Counts {
             begun: [
@@ -115,7 +116,7 @@ impl Counts {
         }
     }
 
-    /// Whether a worker has begun once.
+    /// True if a worker has begun exactly once.
     pub fn is_once(&self, worker: usize) -> bool {
         match self.begun.get(worker) {
             Some(count) => count.load(Ordering::SeqCst) == 1,
@@ -123,7 +124,7 @@ impl Counts {
         }
     }
 
-    /// How often each of the eight has begun.
+    /// The number of times that each of the eight has begun.
     pub fn counts(&self) -> [u64; 8] {
         let mut counts = [0; 8];
         for (to, from) in counts.iter_mut().zip(&self.begun) {

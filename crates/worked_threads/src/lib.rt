@@ -1,6 +1,6 @@
-//! What runs in threads below the publisher: parts of slices, rings, mailboxes, slave machines and chains of segments. The
-//! rows were worked out by hand, and show what no clause says. There is nothing to call: these are tests. They have a crate
-//! of their own since a crate that has tests is proved twice.
+//! Tests of the crates below the publisher: parts of slices, rings, mailboxes, slave machines and chains of segments, many of
+//! them in threads. The rows were worked out by hand, and show what no clause states. There is nothing to call. The tests have
+//! a crate of their own since a crate that has tests is proved twice.
 #![tactic(auto)]
 
 #[cfg(test)]

@@ -12,7 +12,7 @@ pub fn segment_of(alloc: Global, aliases: &[u16]) -> Result<Segment, AllocError>
     Ok(Segment::of(machines))
 }
 
-/// What is done with a segment, and what is to come of it.
+/// A step of a segment, with its result.
 pub enum Step {
     /// Bytes are written into the memory of the machine at this position, from an address on.
     Put(usize, usize, &'static [u8]),
@@ -25,13 +25,13 @@ pub enum Step {
     Frame(&'static [u8], &'static [Piece]),
 }
 
-/// Writes into the memory of a machine, where there is one with room.
+/// Writes into the memory of a machine. False if there is no such machine, or the bytes have no room in it.
 pub fn put_in(segment: &mut Segment, position: usize, at: usize, bytes: &[u8]) -> bool {
     let machines = segment.machines_mut();
     position < machines.len() && put(machines[position].memory_mut(), at, bytes)
 }
 
-/// Whether bytes are in the memory of a machine.
+/// True if these bytes are in the memory of a machine.
 pub fn is_unchanged(machines: &[SlaveMachine], position: usize, at: usize, bytes: &[u8]) -> bool {
     match machines.get(position) {
         Some(machine) => is_placed(machine.memory(), at, bytes),
@@ -50,7 +50,7 @@ fn pass(segment: &mut Segment, is_whole: bool, frame: &mut [u8]) {
     }
 }
 
-/// Whether a frame of one datagram comes back so.
+/// Passes a frame of one datagram. True if it comes back with this address, and with these data and working counter.
 fn is_passed(
     segment: &mut Segment,
     is_whole: bool,
@@ -67,7 +67,7 @@ fn is_passed(
     is_placed(&frame, 18, &addresses.1.to_le_bytes()) && is_placed(&frame, 26, back)
 }
 
-/// Whether a frame comes back with these pieces.
+/// Passes a frame. True if it comes back with these pieces.
 fn comes_back(segment: &mut Segment, is_whole: bool, sent: &[u8], pieces: &[Piece]) -> bool {
     if sent.len() > 64 {
         return false;
@@ -78,7 +78,7 @@ fn comes_back(segment: &mut Segment, is_whole: bool, sent: &[u8], pieces: &[Piec
     are_placed(&frame[..sent.len()], pieces)
 }
 
-/// Whether that comes of it.
+/// True if a step has its result.
 fn is_met(segment: &mut Segment, is_whole: bool, step: &Step) -> bool {
     match step {
         Step::Put(position, at, bytes) => put_in(segment, *position, *at, *bytes),
@@ -95,7 +95,7 @@ fn is_met(segment: &mut Segment, is_whole: bool, step: &Step) -> bool {
     }
 }
 
-/// The number of the first step where that doesn't come.
+/// The number of the first step with another result. None if there is none.
 fn first_missed(segment: &mut Segment, is_whole: bool, steps: &[Step]) -> Option<usize> {
     for (number, step) in steps.iter().enumerate() {
         if !is_met(segment, is_whole, step) {
@@ -105,11 +105,11 @@ fn first_missed(segment: &mut Segment, is_whole: bool, steps: &[Step]) -> Option
     None
 }
 
-/// The aliases of machines, and what is done with them.
+/// The aliases of machines, and the steps of their segment.
 pub type Run = (&'static [u16], &'static [Step]);
 
-/// The numbers of the first run and of its step where that doesn't come: through the segment, or else through each of its
-/// machines.
+/// The numbers of the first run with another result and of its step, through the segment or else through each of its machines.
+/// None if there is none.
 fn first_wrong(
     alloc: Global,
     is_whole: bool,

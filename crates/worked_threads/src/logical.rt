@@ -6,9 +6,9 @@ use hc_machine::SlaveMachine;
 use std::alloc::{AllocError, Global};
 use std::test::Fail;
 
-/// The blocks of FMMUs 0 and 1 (logical start address, length, start bit, stop bit, physical start address, start bit, type,
-/// activate), two bytes of memory before and after, and a datagram of two bytes at logical address 0x01000000 before and
-/// after.
+/// Blocks, memory and data of a datagram. The blocks are those of FMMUs 0 and 1: logical start address, length, start bit, stop
+/// bit, physical start address, start bit, type, activate. Two bytes of memory, and a datagram of two bytes at logical address
+/// 0x01000000, are given before and after.
 struct Row {
     blocks: [[u8; 16]; 2],
     memory: [(u16, u8); 2],
@@ -46,7 +46,7 @@ const ROWS: [Row; 20] = [
         came: [0xc0, 0x02],
         left: [0xc0, 0x02],
         counter: 2,
-        // bits 1, 1, 0, 1 at bits 5, 6, 7 and 8, where 0, 0, 1, 0 was
+        // bits 1, 1, 0, 1 at bits 5, 6, 7 and 8, which were 0, 0, 1, 0
         after: [(0x1000, 0x60), (0x1001, 0xff)],
     },
     // a start bit over the stop bit in one byte: no pair
@@ -93,7 +93,7 @@ const ROWS: [Row; 20] = [
         counter: 1,
         after: [(0x1000, 0x5a), (0x1001, 0)],
     },
-    // where two read FMMUs meet the lower number decides
+    // if two read FMMUs pair one logical bit, the lower number decides
     Row {
         blocks: [
             [0, 0, 0, 1, 1, 0, 0, 3, 0, 0x10, 0, 1, 1, 0, 0, 0],
@@ -105,7 +105,7 @@ const ROWS: [Row; 20] = [
         counter: 1,
         after: [(0x1000, 0x05), (0x1001, 0xf0)],
     },
-    // where two write FMMUs meet the lower number decides
+    // if two write FMMUs pair one bit of memory, the lower number decides
     Row {
         blocks: [
             [1, 0, 0, 1, 1, 0, 0, 3, 0, 0x10, 0, 2, 1, 0, 0, 0],
@@ -117,7 +117,7 @@ const ROWS: [Row; 20] = [
         counter: 2,
         after: [(0x1000, 0x14), (0x1001, 0)],
     },
-    // a lower read FMMU whose pair lies past memory doesn't decide
+    // a lower read FMMU whose pair lies past memory does not decide
     Row {
         blocks: [
             [0, 0, 0, 1, 2, 0, 0, 7, 0xff, 0x2f, 0, 1, 1, 0, 0, 0],
@@ -162,7 +162,7 @@ const ROWS: [Row; 20] = [
         counter: 3,
         after: [(0x1000, 0x12), (0x1001, 0)],
     },
-    // pairs past memory don't count
+    // pairs past memory do not count
     Row {
         blocks: [[0, 0, 0, 1, 2, 0, 0, 7, 0xff, 0x2f, 0, 2, 1, 0, 0, 0], NONE],
         memory: [(0x2fff, 0), (0x0000, 0)],
@@ -207,7 +207,7 @@ const ROWS: [Row; 20] = [
         counter: 1,
         after: [(0x1000, 0), (0x1001, 0x7e)],
     },
-    // the alias is 100, in 0x0012 and 0x0013: both stay, the bytes beside them don't, and the writes count; here the byte
+    // the alias is 100, in 0x0012 and 0x0013: both bytes stay, those beside them do not, and the writes count; here the byte
     // before it, and its low byte
     Row {
         blocks: [[0, 0, 0, 1, 2, 0, 0, 7, 0x11, 0, 0, 2, 1, 0, 0, 0], NONE],
@@ -217,7 +217,7 @@ const ROWS: [Row; 20] = [
         counter: 2,
         after: [(0x0011, 0x12), (0x0012, 100)],
     },
-    // its high byte, and the byte after it
+    // the alias's high byte, and the byte after it
     Row {
         blocks: [[0, 0, 0, 1, 2, 0, 0, 7, 0x13, 0, 0, 2, 1, 0, 0, 0], NONE],
         memory: [(0x0011, 7), (0x0014, 8)],
@@ -226,7 +226,7 @@ const ROWS: [Row; 20] = [
         counter: 2,
         after: [(0x0013, 0), (0x0014, 0x34)],
     },
-    // it alone: the write counts all the same
+    // the alias alone: the write counts all the same
     Row {
         blocks: [[0, 0, 0, 1, 2, 0, 0, 7, 0x12, 0, 0, 2, 1, 0, 0, 0], NONE],
         memory: [(0x0011, 7), (0x0014, 8)],
@@ -237,7 +237,8 @@ const ROWS: [Row; 20] = [
     },
 ];
 
-/// The number of the first row whose datagram a machine doesn't answer so. Each has a machine of its own, with the alias 100.
+/// The number of the first row with another result. None if there is none. Each row has a machine of its own, with the alias
+/// 100.
 fn first_wrong_row(alloc: Global, rows: &[Row]) -> Result<Option<usize>, AllocError> {
     for (number, row) in rows.iter().enumerate() {
         let mut machine = SlaveMachine::new(alloc, 100)?;
@@ -329,7 +330,7 @@ const RUNS: [Run; 6] = [
             Frame(&LAST_COUNT, &[(27, &[2, 0])]),
         ],
     ),
-    // logical bits don't wrap: of two bytes from the last logical address on none is at address 0
+    // logical bits do not wrap: of two bytes from the last logical address on none is at address 0
     (
         &[0],
         &[
@@ -389,7 +390,7 @@ const RUNS: [Run; 6] = [
             Frame(&TWO, &[(42, &[2, 0]), (54, &[0x5a, 1, 0])]),
         ],
     ),
-    // frames that aren't read stay, and so does memory
+    // frames that are not read stay, and so does memory
     (
         &[0],
         &[

@@ -43,7 +43,7 @@ fn send_epoch(sender: &mut Sender<TaskImage>, epoch: u32) -> u64
     sender.send()
 }
 
-/// Whether the head of an image is the one that `head_of` gives.
+/// True if the numbers in an image's head are those of `head_of`.
 fn has_head(image: &TaskImage) -> bool {
     let head = image.head();
     head.task_epoch == head.epoch / 2
@@ -52,7 +52,7 @@ fn has_head(image: &TaskImage) -> bool {
         && head.is_refused == (head.epoch % 2 == 1)
 }
 
-/// Whether an image is whole: an epoch's as it was sent, or the blank one.
+/// True if an image is whole: an epoch's as it was sent, or the blank one.
 fn is_whole(image: &TaskImage) -> bool {
     let epoch = image.head().epoch;
     let byte = (epoch % 251) as u8;
@@ -74,8 +74,8 @@ fn send_all(mut sender: Sender<TaskImage>)
     }
 }
 
-/// Looks until the last image is there, and at most so often: whether each image was whole, with its epoch as its number, and none
-/// older than the one before, and the epoch of the last one.
+/// Looks until the last image is there, at most `TURNS` times. Returns the epoch of the last image seen, and true if each one
+/// was whole, had its epoch as its number, and was not older than the one before.
 fn watch(mut receiver: Receiver<TaskImage>) -> (bool, u32) {
     let mut epoch = 0;
     for _ in 0..TURNS {
@@ -95,7 +95,7 @@ fn watch(mut receiver: Receiver<TaskImage>) -> (bool, u32) {
     (true, epoch)
 }
 
-/// A thread that looks while 2,000 images are sent sees each one whole, none older than the one before, and the last one.
+/// Each image that a thread sees while 2,000 are sent is whole and not older than the one before, and the last one is seen.
 #[test]
 fn images_go_from_thread_to_thread(rt: HostRuntime) -> Result<(), Fail> {
     let (sender, receiver) = open(rt.alloc(), 4, 2)?;
@@ -104,7 +104,7 @@ fn images_go_from_thread_to_thread(rt: HostRuntime) -> Result<(), Fail> {
     Ok(())
 }
 
-/// The epoch, the last byte and the number of what is shown; no byte if it has none.
+/// The epoch, the last byte and the number of the image that a receiver shows. No byte if the image has none.
 fn shown(receiver: &Receiver<TaskImage>) -> (u32, Option<u8>, u64) {
     let image = receiver.content();
     (
@@ -149,7 +149,7 @@ fn an_end_goes_on_alone(rt: HostRuntime) -> Result<(), Fail> {
     Ok(())
 }
 
-/// What a receiver sees is what the sender sent, also after the receiver was moved.
+/// A receiver sees the image that the sender sent, also after the receiver was moved.
 #[test]
 fn what_was_seen_was_sent(rt: HostRuntime) -> Result<(), Fail> {
     let (mut sender, receiver) = open(rt.alloc(), 4, 2)?;
@@ -171,8 +171,8 @@ fn post_all(mut sender: Sender<TaskPost>)
     }
 }
 
-/// Takes posts until the last one is there, and at most so often: whether each was whole, with its epoch as its number, and newer
-/// than the one before, and the epoch of the last one.
+/// Looks until the last post is there, at most `TURNS` times. Returns the epoch of the last post taken, and true if each one
+/// was whole, had its epoch as its number, and was newer than the one before.
 fn take_all(mut receiver: Receiver<TaskPost>) -> (bool, u32) {
     let mut epoch = 0;
     for _ in 0..TURNS {
@@ -193,7 +193,7 @@ fn take_all(mut receiver: Receiver<TaskPost>) -> (bool, u32) {
     (true, epoch)
 }
 
-/// A thread that takes while 2,000 posts are made takes each one whole, newer than the one before, and the last one.
+/// Each post that a thread takes while 2,000 are made is whole and newer than the one before, and the last one is taken.
 #[test]
 fn posts_go_from_thread_to_thread(rt: HostRuntime) -> Result<(), Fail> {
     let (sender, receiver) = open(rt.alloc(), 4, 0)?;

@@ -19,7 +19,7 @@ impl PartWork for Stamp {
     }
 }
 
-/// Copies to a part the word that has its number, where there is one and it fits.
+/// Copies to a part the word with its number, if there is one and it fits.
 #[derive(Drop)]
 struct Copies<'a> {
     words: &'a [[u8; 2]],
@@ -35,7 +35,7 @@ impl PartWork for Copies<'_> {
     }
 }
 
-/// What a caller of `each_at_once` knows of its own slice.
+/// Stamps each part of the caller's own slice by `each_at_once`. The contract gives the bytes that the slice then has.
 fn stamp_each<R: Threads + Sync>(rt: &R, bytes: &mut [u8], lengths: &[u32])
     requires { sum lengths.now ≡ length bytes.old }
     ensures { bytes.new ≡ concat (worked_parts (λ part b. replicate (length b) (part % 255 + 1)) 0 lengths.now bytes.old) }
@@ -43,7 +43,7 @@ fn stamp_each<R: Threads + Sync>(rt: &R, bytes: &mut [u8], lengths: &[u32])
     each_at_once(rt, Parts::of(bytes, lengths), &Stamp, &Open);
 }
 
-/// Whether bytes in parts of these lengths become these.
+/// Stamps parts of these lengths. True if their bytes become these.
 fn is_stamped<R: Threads + Sync>(rt: &R, lengths: &[u32], wanted: &[u8]) -> bool
     requires all { sum lengths.now ≡ length wanted.now }
     requires few { length wanted.now ≤ 12 }
@@ -54,7 +54,7 @@ fn is_stamped<R: Threads + Sync>(rt: &R, lengths: &[u32], wanted: &[u8]) -> bool
     &*bytes == wanted
 }
 
-/// Each part of a slice is worked on once, also an empty one, and with no parts nothing is.
+/// Each part of a slice is worked on once, also an empty one. Without parts nothing is worked on.
 #[test]
 fn each_part_is_worked_on(rt: HostRuntime) {
     let are_stamped = [
@@ -71,7 +71,7 @@ fn each_part_is_worked_on(rt: HostRuntime) {
     assert_eq!(rt; are_stamped, [true; 5]);
 }
 
-/// What a caller knows of its own slice where it takes the parts apart and cuts them itself.
+/// Takes parts apart, cuts the first one itself and stamps it. The contract gives the bytes that the caller's slice then has.
 fn stamp_first(bytes: &mut [u8], lengths: &[u32])
     requires all { sum lengths.now ≡ length bytes.old }
     requires one { 0 < length lengths.now }
@@ -83,7 +83,7 @@ fn stamp_first(bytes: &mut [u8], lengths: &[u32])
     Stamp.work(0, part);
 }
 
-/// What a caller shows of its parts where the work is not for any part: their numbers and lengths.
+/// Copies a word to each part. The work is not for any part: the caller shows that each has a word, and a length of 2.
 fn copy_each<R: Threads + Sync>(rt: &R, bytes: &mut [u8], lengths: &[u32], words: &[[u8; 2]])
     requires all { sum lengths.now ≡ length bytes.old }
     requires fits { EachIndex lengths.now (λ k. slice_index lengths.now k ≡ 2) }

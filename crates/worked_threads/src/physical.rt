@@ -85,7 +85,7 @@ const RUNS: [Run; 6] = [
     ),
 ];
 
-/// Whether a segment gives its two machines back, each with its alias and with what was written.
+/// True if a segment gives its two machines back, each with its alias and with the bytes that were written.
 fn are_given_back(alloc: Global) -> Result<bool, AllocError> {
     let mut segment = segment_of(alloc, &[1, 2])?;
     let are_put = put_in(&mut segment, 0, 0x1000, &[9]) && put_in(&mut segment, 1, 0x1000, &[9]);

@@ -1,7 +1,7 @@
 //! Frames of one datagram, and bytes that are in frames and memories.
 ghost use Rattle.std.specs.Prelude.{◌≤◌, length};
 
-/// Bytes that are to be from a place on.
+/// An offset, and the bytes that are to be there.
 pub type Piece = (usize, &'static [u8]);
 
 /// A frame of one datagram with the serial 0: 64 bytes; those after the working counter are 0.
@@ -20,7 +20,7 @@ pub fn frame_of(command: u8, address: u32, bytes: &[u8]) -> [u8; 64]
     frame
 }
 
-/// Whether bytes are from a place on.
+/// True if the wanted bytes are at this offset.
 pub fn is_placed(bytes: &[u8], at: usize, wanted: &[u8]) -> bool {
     match bytes.get(at..) {
         Some(rest) => rest.starts_with(wanted),
@@ -28,7 +28,7 @@ pub fn is_placed(bytes: &[u8], at: usize, wanted: &[u8]) -> bool {
     }
 }
 
-/// Whether each of the pieces is at its place.
+/// True if each of the pieces is at its offset.
 pub fn are_placed(bytes: &[u8], pieces: &[Piece]) -> bool {
     for (at, wanted) in pieces {
         if !is_placed(bytes, *at, *wanted) {
@@ -38,7 +38,7 @@ pub fn are_placed(bytes: &[u8], pieces: &[Piece]) -> bool {
     true
 }
 
-/// Writes bytes from a place on, where they have room.
+/// Writes bytes at an offset. False if they have no room.
 pub fn put(bytes: &mut [u8], at: usize, written: &[u8]) -> bool {
     let has_room = at <= bytes.len() && written.len() <= bytes.len() - at;
     if has_room {

@@ -1,11 +1,11 @@
-//! What is done with the two ends of a ring of posts, and what is to come of it.
+//! Steps of the two ends of a ring of posts, each with its result.
 ghost use Rattle.std.specs.Prelude.{◌≡◌, ◌≤◌, [], ◌∷◌, ◌++◌, length, IsTrue};
 ghost use Rattle.hc_rings.specs.Post.{post_of};
 ghost use Rattle.hc_rings.specs.Ring.{posted, SameReceiver, SameSender};
 
 use hc_rings::{LARGEST_IMAGE, NoSpare, PostFault, PostReceiver, PostSender};
 
-/// Posts this epoch with these bytes.
+/// Posts these bytes for this epoch. True if they are posted.
 pub fn post(sender: &mut PostSender, epoch: u32, bytes: &[u8; 3]) -> bool
     ensures { SameSender sender.old sender.new }
 {
@@ -19,7 +19,7 @@ pub fn post(sender: &mut PostSender, epoch: u32, bytes: &[u8; 3]) -> bool
     sender.post(buffer).is_ok()
 }
 
-/// Whether posts of the epochs 0 to 3 with these bytes can be posted.
+/// Posts these bytes for each of the epochs 0 to 3. True if all four are posted.
 pub fn post_four(sender: &mut PostSender, bytes: &[u8; 3]) -> bool {
     for epoch in 0..4 {
         if !post(sender, epoch, bytes) {
@@ -29,7 +29,7 @@ pub fn post_four(sender: &mut PostSender, bytes: &[u8; 3]) -> bool {
     true
 }
 
-/// Posts these bytes for this epoch, from the buffer that the sender holds.
+/// Posts these bytes for this epoch, from the buffer that the sender holds. True if they are posted.
 fn post_held_bytes(sender: &mut PostSender, epoch: u32, bytes: &[u8]) -> bool
     requires { length bytes.now ≤ LARGEST_IMAGE }
     ensures { IsTrue result → posted sender.new ≡ posted sender.old ++ post_of epoch bytes.now ∷ [] }
@@ -41,7 +41,7 @@ fn post_held_bytes(sender: &mut PostSender, epoch: u32, bytes: &[u8]) -> bool
     sender.post_held().is_ok()
 }
 
-/// Whether the outputs of so many bytes are zeros. Each is then the byte.
+/// Begins outputs of this size. True if they are zeros. Each is then the byte.
 fn begins_outputs(sender: &mut PostSender, epoch: u32, size: usize, byte: u8) -> bool
     requires { size ≤ LARGEST_IMAGE }
 {
@@ -55,7 +55,7 @@ fn begins_outputs(sender: &mut PostSender, epoch: u32, size: usize, byte: u8) ->
     }
 }
 
-/// Whether the next post is for this epoch and has these bytes. Its buffer is given back.
+/// Takes the next post, and gives its buffer back. True if it is for this epoch and has these bytes.
 pub fn takes(receiver: &mut PostReceiver, epoch: u32, bytes: &[u8; 3]) -> bool
     ensures { SameReceiver receiver.old receiver.new }
 {
@@ -67,7 +67,7 @@ pub fn takes(receiver: &mut PostReceiver, epoch: u32, bytes: &[u8; 3]) -> bool
     same
 }
 
-/// Whether the next four posts are those of the epochs 0 to 3 with these bytes.
+/// Takes the next four posts. True if they are for the epochs 0 to 3 and have these bytes.
 pub fn takes_four(receiver: &mut PostReceiver, bytes: &[u8; 3]) -> bool {
     for epoch in 0..4 {
         if !takes(receiver, epoch, bytes) {
@@ -77,19 +77,19 @@ pub fn takes_four(receiver: &mut PostReceiver, bytes: &[u8; 3]) -> bool {
     true
 }
 
-/// What a receiver does, with what is to come of it.
+/// A call of a receiver, with its result.
 pub enum Taking {
-    /// It takes a post with this epoch and these bytes, and gives its buffer back.
+    /// The receiver takes a post with this epoch and these bytes, and gives its buffer back.
     Post(u32, [u8; 3]),
-    /// It takes posts with the epochs 0 to 3 and these bytes.
+    /// The receiver takes posts with the epochs 0 to 3 and these bytes.
     Four([u8; 3]),
-    /// It finds no post.
+    /// The receiver finds no post.
     Nothing,
-    /// It says how many posts are left, where it sees that the sender is gone.
+    /// The receiver returns the number of posts that are left, if it sees that the sender is gone.
     Left(Option<u32>),
 }
 
-/// Whether that comes of it.
+/// True if a call of the receiver has its result.
 fn comes(receiver: &mut PostReceiver, taking: &Taking) -> bool {
     match taking {
         Taking::Post(epoch, bytes) => takes(receiver, *epoch, bytes),
@@ -99,7 +99,7 @@ fn comes(receiver: &mut PostReceiver, taking: &Taking) -> bool {
     }
 }
 
-/// Whether all of them come as they are to.
+/// True if all calls of the receiver have their results.
 pub fn all_come(receiver: &mut PostReceiver, takings: &[Taking]) -> bool {
     for taking in takings {
         if !comes(receiver, taking) {
@@ -109,7 +109,7 @@ pub fn all_come(receiver: &mut PostReceiver, takings: &[Taking]) -> bool {
     true
 }
 
-/// What is done with one of the ends.
+/// A step of one of the ends, with its result.
 pub enum Step {
     /// A buffer is handed out for this epoch, and posted with these bytes.
     Post(u32, [u8; 3]),
@@ -119,15 +119,15 @@ pub enum Step {
     PostHeld(u32, [u8; 3]),
     /// This many outputs are begun for this epoch, and are zeros. Each is then the byte.
     Begin(u32, usize, u8),
-    /// The buffer that is held is posted, or isn't for this cause.
+    /// The held buffer is posted, or the post fails for this cause.
     Held(Result<(), PostFault>),
     /// No buffer is spare: none is handed out, and none can be held, neither by its size nor as outputs.
     NoSpare,
-    /// The receiver does this.
+    /// The receiver makes this call.
     Take(Taking),
 }
 
-/// Whether the step is done.
+/// True if a step has its result.
 fn is_done(sender: &mut PostSender, receiver: &mut PostReceiver, step: &Step) -> bool {
     match step {
         Step::Post(epoch, bytes) => post(sender, *epoch, bytes),
@@ -146,7 +146,7 @@ fn is_done(sender: &mut PostSender, receiver: &mut PostReceiver, step: &Step) ->
     }
 }
 
-/// Whether all of them are done, one after another.
+/// True if all steps have their results, one after another.
 pub fn all_done(sender: &mut PostSender, receiver: &mut PostReceiver, steps: &[Step]) -> bool {
     for step in steps {
         if !is_done(sender, receiver, step) {

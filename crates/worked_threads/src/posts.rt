@@ -6,7 +6,8 @@ use crate::posting::{Step, all_come, all_done};
 use hc_rings::{LARGEST_IMAGE, PostFault, post_ring};
 use std::test::Fail;
 
-/// What is done with both ends of a ring; what is taken once the sender is dropped; and how many posts are then left.
+/// The steps of both ends of a ring; the receiver's calls once the sender is dropped; and the number of posts that are then
+/// left.
 type Run = (&'static [Step], &'static [Taking], u32);
 
 const RUNS: [Run; 8] = [
@@ -39,7 +40,7 @@ const RUNS: [Run; 8] = [
         ],
         0,
     ),
-    // nor is it where nothing was posted
+    // a held buffer is no post, also if nothing was posted
     (&[Begin(7, 3, 6)], &[Nothing, Left(Some(0))], 0),
     // a take may meet the end first
     (
@@ -118,7 +119,8 @@ const RUNS: [Run; 8] = [
     ),
 ];
 
-/// Posts come out of a ring as they were posted, in order, also after the sender is dropped. So many are then left, and no more.
+/// Posts come out of a ring as they were posted, in order, also after the sender is dropped. As many as the row says are left
+/// then, and no more.
 #[test]
 fn posts_come_as_they_were_posted(rt: HostRuntime) -> Result<(), Fail> {
     for (number, (steps, takings, left)) in RUNS.iter().enumerate() {

@@ -1,11 +1,11 @@
-//! What no contract says of workers: that they run at once, and that each calls the gate once, before its work.
+//! Workers run at once, and each calls the gate once, before its work. No contract states this.
 use crate::gates::{Counts, Holds, Meets};
 use crate::parts::Stamp;
 use hc_lend::{Gate, PartWork, Parts, each_at_once};
 use std::sync::atomic::{AtomicU64, Ordering};
 use std::thread::Threads;
 
-/// Whether a worker that is held for another one sees it, and both parts are worked on.
+/// True if a worker that is held for another one sees it, and both parts are worked on.
 fn sees<R: Threads + Sync>(rt: &R, holder: usize, other: usize) -> bool {
     let gate = Holds::of(holder, other);
     let mut bytes = [0; 4];
@@ -13,7 +13,7 @@ fn sees<R: Threads + Sync>(rt: &R, holder: usize, other: usize) -> bool {
     gate.has_seen() && bytes == [1, 2, 2, 2]
 }
 
-/// The wrong body, for two parts: whether the first worker sees the second where they work in turn, and what they leave.
+/// The wrong body, for two parts, which works on them in turn. Returns true if the first worker saw the second, and the bytes.
 fn seen_in_turn() -> (bool, [u8; 4]) {
     let gate = Holds::of(0, 1);
     let mut bytes = [0; 4];

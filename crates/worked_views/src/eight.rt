@@ -5,8 +5,8 @@ use hc_publish::seat::Seat;
 use std::sync::atomic::AtomicBool;
 use std::thread::{Threads, join, map_vec};
 
-/// Eight seats view, each in a thread of its own, until all is done: how far all are, where they are equally far. None where
-/// there are more or fewer.
+/// Eight seats view, each in a thread of its own, until all is done. Returns the moment to which all came. None if two differ,
+/// or there are more or fewer seats.
 fn watch<R: Threads + Sync>(rt: &R, seats: Vec<Seat>, is_done: &AtomicBool) -> Option<u64> {
     if seats.len() != 8 {
         return None;
@@ -26,7 +26,7 @@ fn watch<R: Threads + Sync>(rt: &R, seats: Vec<Seat>, is_done: &AtomicBool) -> O
     first
 }
 
-/// Eight seats view so while something goes on, which says when all is done: what all come to.
+/// Eight seats view beside `work`, which sets the flag when all is done. Returns the seats' moment and the result of `work`.
 pub fn watch_eight<R: Threads + Sync, A, F: FnOnce() -> A>(
     rt: &R,
     seats: Vec<Seat>,

@@ -19,13 +19,13 @@ use hc_records::limits::TASKS;
 use std::alloc::{AllocError, Global};
 use std::sync::Wait;
 
-/// The feeder joins the line.
+/// The feeder is connected.
 pub const DOCK: Edit = Edit::Connect(200);
 
-/// The feeder leaves it.
+/// The feeder is disconnected.
 pub const UNDOCK: Edit = Edit::Disconnect(200);
 
-/// The plan of a line at its opening, from the texts of its groups; none if they are no project or a growth is refused.
+/// The plan of a line at its opening, from the texts of its groups. None if they are no project or an allocation fails.
 fn plan_of_line(alloc: Global, texts: &[&str]) -> Option<Plan>
     ensures { IfSome result IsOpening }
 {
@@ -98,8 +98,8 @@ pub fn append_edit(
     }
 }
 
-/// Appends a good answer of a task's first datagram, in this memory; there has to be such a task, and the answer has the
-/// datagram's length.
+/// Appends a good answer of a task's first datagram, in this memory. Fails if there is no such datagram, or the answer has
+/// another length.
 pub fn append_answer(
     room: Vec<u8>,
     plan: &Plan,
@@ -127,7 +127,7 @@ pub fn append_answer(
     append(publisher, Change::Good(good))
 }
 
-/// Publishes what is pending, or answers `Memory`, and then it stays so.
+/// Publishes all pending changes. They stay pending if an allocation fails.
 pub fn publish<R: Wait>(rt: &R, plan: &Plan, publisher: &mut Publisher) -> Result<(), AllocError>
     requires { LeadsTo publisher.old plan.now }
     ensures leads { LeadsTo publisher.new plan.now }

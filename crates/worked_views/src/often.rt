@@ -16,7 +16,7 @@ use std::thread::Threads;
 /// The number of turns, with four publishings each.
 const TURNS: u32 = 500;
 
-/// Whether each view was of one epoch, none after an earlier one, and the last ones show all.
+/// True if each view was of one epoch, none was older than the one before, and the last ones show all.
 fn are_views_whole<R: Threads + Wait + Sync>(
     rt: &R,
     alloc: Global,

@@ -42,8 +42,8 @@ assigned = [0x1a00]
 pdo = [{ index = 0x1a00, entries = [[3, 8]] }]
 "#;
 
-/// A terminal with 16 input bits in each of the eight tasks, one with 16 output bits in each, and a feeder, alias 200, that
-/// can be docked, with 8 output and 8 input bits in each of two tasks.
+/// A terminal with 16 input bits in each of the eight tasks, and one with 16 output bits in each. A feeder, alias 200, can be
+/// docked, with 8 output and 8 input bits in each of two tasks.
 pub const EIGHT: &str = r#"
 [[slave]]
 station = 1001
@@ -84,7 +84,7 @@ area = [
 ]
 "#;
 
-/// The project that texts spell, one after the other; none where memory was refused.
+/// The project that the texts spell, one after the other. None if they spell none, or an allocation failed.
 pub fn project_of(alloc: Global, texts: &[&str]) -> Option<Project> {
     let mut whole = String::new(alloc);
     for text in texts {

@@ -13,7 +13,7 @@ use std::alloc::Global;
 use std::sync::Wait;
 use std::thread::{self, Threads, join};
 
-/// A view is taken and left: the epoch that it showed.
+/// Takes a view and leaves it. Returns the epoch that it showed.
 pub fn looked(seat: Seat) -> (Seat, u32)
     ensures origin { seat_origin result.0 ≡ seat_origin seat }
     ensures begins { IsPrefix (known seat) (known result.0) }
@@ -27,7 +27,7 @@ pub fn looked(seat: Seat) -> (Seat, u32)
     }
 }
 
-/// Two hundred views, one after another, and whether their epochs never fell.
+/// Takes two hundred views, one after another. True if their epochs never fell.
 fn looked_often(mut seat: Seat) -> (Seat, bool)
     ensures { seat_origin result.0 ≡ seat_origin seat }
 {
@@ -68,7 +68,7 @@ fn two_notes<R: Wait>(
     Some((note, publisher.note()))
 }
 
-/// A seat views in a thread of its own while something is done.
+/// A seat views in a thread of its own beside `work`.
 fn beside<R: Threads, A, F: FnOnce() -> A>(rt: &R, seat: Seat, work: F) -> ((Seat, bool), A)
     requires { F.pre work }
     ensures seat { seat_origin result.0.0 ≡ seat_origin seat }
@@ -83,7 +83,7 @@ fn beside<R: Threads, A, F: FnOnce() -> A>(rt: &R, seat: Seat, work: F) -> ((Sea
     )
 }
 
-/// Two seats view, each in a thread of its own, while something is done.
+/// Two seats view, each in a thread of its own, beside `work`.
 fn beside_two<R: Threads, A, F: FnOnce() -> A>(
     rt: &R,
     one: Seat,
@@ -105,7 +105,7 @@ fn beside_two<R: Threads, A, F: FnOnce() -> A>(
     )
 }
 
-/// Each seat learns a note in a thread and views there: the epochs that they show.
+/// Each seat learns a note in a thread and views there. Returns the epochs that they show.
 fn both_learned<R: Threads>(rt: &R, one: Seat, two: Seat, first: Note, second: Note) -> (u32, u32)
     requires one { note_origin first ≡ seat_origin one }
     requires two { note_origin second ≡ seat_origin two }
@@ -151,7 +151,7 @@ fn two_scopes<R: Threads + Wait>(
     Some(rises && too && shown == (3, 3))
 }
 
-/// Opens the line, and whether both scopes of the last two seats showed what they are to show.
+/// Opens the line. True if both scopes of the last two seats have their results.
 fn is_seen<R: Threads + Wait>(rt: &R, alloc: Global) -> bool {
     let Some((mut plan, mut publisher, mut seats)) = opened(rt, alloc) else {
         return false;

@@ -1,4 +1,4 @@
-//! What one task's views show of the line: rows worked out by hand.
+//! Views of the line by one task: rows worked out by hand.
 ghost use Rattle.std.specs.Prelude.{OnOk};
 ghost use Rattle.worked_views.specs.Lines.{LeadsTo};
 
@@ -14,12 +14,11 @@ use std::alloc::{AllocError, Global};
 use std::sync::Wait;
 use std::test::Fail;
 
-/// A variable's number, and what task 0 gets for it: its first bit, if it has a place, and its value or the number
-/// of a fault.
+/// A variable's number, and what task 0 gets for it: its first bit, if it has a place, and its value or the number of a fault.
 type ShownValue = (u32, Option<u16>, Result<u64, u8>);
 
-/// What a view shows: the epoch, the bytes of the task's outputs and of its inputs, the data of its datagram, and what
-/// it says of variables.
+/// The contents of a view: the epoch, the bytes of the task's outputs and of its inputs, the data of its datagram, and the
+/// places and values of variables.
 struct Moment {
     epoch: u32,
     part: (u16, u16),
@@ -27,7 +26,7 @@ struct Moment {
     values: &'static [ShownValue],
 }
 
-/// The axis has a byte of outputs and two of inputs. Variable 9 is none, and variable 3 is of the feeder, which isn't
+/// The axis has a byte of outputs and two of inputs. There is no variable 9, and variable 3 is of the feeder, which is not
 /// docked.
 const OPENED: Moment = Moment {
     epoch: 0,
@@ -100,16 +99,16 @@ enum Given {
     Answer(&'static [u8]),
     /// The feeder joins the line.
     Docking,
-    /// It leaves it.
+    /// The feeder leaves the line.
     Undocking,
     /// The axis loses its outputs.
     LosingOutputs,
 }
 
-/// What is appended before one publishing, and what a view shows after it.
+/// The changes that are appended before a publishing, and the moment that a view shows after it.
 type Row = (&'static [Given], &'static Moment);
 
-/// One publishing after another.
+/// The publishings, one after another.
 const ROWS: &[Row] = &[
     (&[Given::Answer(b"\x02\x34\x0a")], &ANSWERED),
     (&[Given::Docking], &DOCKED),
@@ -126,7 +125,7 @@ const ROWS: &[Row] = &[
     ),
 ];
 
-/// Whether a view says all of this of variables.
+/// True if a view gives each of these variables its place, and its value or fault.
 fn says_all(view: &View, rows: &[ShownValue]) -> bool {
     for (number, bit, value) in rows {
         let Some(variable) = VarId::new(*number) else {
@@ -147,7 +146,7 @@ fn says_all(view: &View, rows: &[ShownValue]) -> bool {
     true
 }
 
-/// Whether a datagram has just these data, or none.
+/// True if a datagram has exactly these data, or none.
 fn has(data: Option<&[u8]>, wanted: Option<&[u8]>) -> bool {
     match (data, wanted) {
         (Some(data), Some(wanted)) => data == wanted,
@@ -156,7 +155,7 @@ fn has(data: Option<&[u8]>, wanted: Option<&[u8]>) -> bool {
     }
 }
 
-/// A view is taken and left, and whether it showed this.
+/// Takes a view and leaves it. True if it showed this moment.
 fn sees(seat: Seat, moment: &Moment) -> (Seat, bool) {
     match seat.view() {
         Ok(view) => {
@@ -170,7 +169,7 @@ fn sees(seat: Seat, moment: &Moment) -> (Seat, bool) {
     }
 }
 
-/// Appends a change that is given.
+/// Appends one change.
 fn append(
     alloc: Global,
     plan: &mut Plan,
@@ -195,7 +194,7 @@ fn append(
     }
 }
 
-/// Appends all that is given, in order.
+/// Appends all of these changes, in order.
 fn append_all(
     alloc: Global,
     plan: &mut Plan,
@@ -211,7 +210,8 @@ fn append_all(
     Ok(())
 }
 
-/// Publishes what is pending. Where that is refused the seat has to see the moment before, and it is tried once more.
+/// Publishes all pending changes. If an allocation fails, the publishing is tried once more, and the result is true if the seat
+/// sees the moment before.
 fn published<R: Wait>(
     rt: &R,
     plan: &Plan,
@@ -232,7 +232,7 @@ fn published<R: Wait>(
     }
 }
 
-/// Whether a seat sees what is given once it is published, and the moment before until then.
+/// True if a seat sees the row's moment once its changes are published, and the moment before until then.
 fn is_seen<R: Wait>(
     rt: &R,
     alloc: Global,
@@ -252,7 +252,7 @@ fn is_seen<R: Wait>(
     Ok((seat, waits && stays && seen))
 }
 
-/// The number of the first row where a seat doesn't see what it should; none where it sees all.
+/// The number of the first row whose moment the seat does not see. None if it sees all.
 fn first_unseen<R: Wait>(
     rt: &R,
     alloc: Global,
@@ -289,7 +289,7 @@ fn first_unseen_of<R: Wait>(rt: &R, alloc: Global) -> Result<Option<usize>, Allo
     unseen
 }
 
-/// A view shows what was published last, and the moment before until then.
+/// A view shows what was published last, until the next publishing.
 #[test]
 fn a_view_shows_what_was_published(rt: HostRuntime) -> Result<(), Fail> {
     assert_eq!(rt; first_unseen_of(&rt, rt.alloc())?, None);

@@ -1,5 +1,5 @@
-//! Cycles of good answers, where a seat views, learns and leaves: after the first ones no growth is met any more,
-//! which is counted from outside.
+//! Cycles of good answers, in which a seat views, learns and leaves. After the first ones no allocation is made, which is
+//! counted from outside (`ci/sweep.sh`).
 ghost use Rattle.std.specs.Prelude.{◌≡◌, OnOk};
 ghost use Rattle.hc_publish.specs.PublishedState.{origin_of};
 ghost use Rattle.hc_publish.specs.Seats.{seat_origin};
@@ -14,7 +14,7 @@ use std::alloc::{AllocError, Global};
 use std::sync::Wait;
 use std::test::Fail;
 
-/// The memory of an answer that both copies have taken in; none in the first cycles.
+/// The memory of an answer that both copies have applied. It is empty in the first cycles.
 fn room(alloc: Global, publisher: &Publisher) -> Vec<u8> {
     match publisher.spare() {
         Some(good) => good.into_bytes().into_vec(),
@@ -22,7 +22,7 @@ fn room(alloc: Global, publisher: &Publisher) -> Vec<u8> {
     }
 }
 
-/// Two answers are appended and published.
+/// Appends and publishes two answers.
 fn cycle<R: Wait>(
     rt: &R,
     alloc: Global,
@@ -38,7 +38,7 @@ fn cycle<R: Wait>(
     publish(rt, plan, publisher)
 }
 
-/// The value of variable 2 for a seat, none where it has none.
+/// The value of variable 2 for a seat. None if it has no value.
 fn value_seen(seat: Seat) -> (Seat, Option<u64>)
     ensures { seat_origin result.0 ≡ seat_origin seat }
 {
@@ -54,7 +54,7 @@ fn value_seen(seat: Seat) -> (Seat, Option<u64>)
     }
 }
 
-/// Whether a seat that learns a note after each of so many cycles sees the last answer.
+/// True if a seat that learns a note after each of `cycles` cycles sees the last answer each time.
 fn is_steady<R: Wait>(
     rt: &R,
     alloc: Global,
@@ -97,7 +97,7 @@ fn few_cycles(rt: HostRuntime) -> Result<(), Fail> {
     Ok(())
 }
 
-/// With as many growths as in few.
+/// Forty cycles of good answers go as they should, and make as many allocations as four, as `ci/sweep.sh` counts.
 #[test]
 fn many_cycles(rt: HostRuntime) -> Result<(), Fail> {
     assert!(rt; is_steady_of(&rt, rt.alloc(), 40)?);

@@ -10,7 +10,7 @@ use hc_records::limits::TASKS;
 use std::alloc::Global;
 use std::sync::Wait;
 
-/// An answer of each task is appended. None where memory was refused.
+/// Appends an answer of each task. None if an allocation failed, or a task has no datagram.
 fn append_answers(alloc: Global, plan: &Plan, publisher: &mut Publisher) -> Option<()>
     requires { LeadsTo publisher.old plan.now }
     ensures { IfSome result (λ _. LeadsTo publisher.new plan.now) }
@@ -26,7 +26,7 @@ fn append_answers(alloc: Global, plan: &Plan, publisher: &mut Publisher) -> Opti
     Some(())
 }
 
-/// An edit is published, and then the answers of its epoch.
+/// Publishes an edit, and then the answers of its epoch.
 fn publish_turn<R: Wait>(
     rt: &R,
     alloc: Global,
@@ -42,7 +42,7 @@ fn publish_turn<R: Wait>(
     publish(rt, plan, publisher).ok()
 }
 
-/// The feeder is docked and undocked, again and again: four publishings each time.
+/// Connects and disconnects the feeder, again and again, with four publishings each time.
 pub fn publish_turns<R: Wait>(
     rt: &R,
     alloc: Global,

@@ -1,10 +1,10 @@
-//! Seats that view again and again while changes are published in turn, and how far each view is.
+//! Seats that view again and again while changes are published in turn, and the moments of their views.
 
 use hc_publish::seat::Seat;
 use std::sync::atomic::{AtomicBool, Ordering};
 use std::thread;
 
-/// Whether all these bytes are this one.
+/// True if all these bytes are this one.
 fn are_all(bytes: &[u8], byte: u8) -> bool {
     for own in bytes {
         if *own != byte {
@@ -14,8 +14,8 @@ fn are_all(bytes: &[u8], byte: u8) -> bool {
     true
 }
 
-/// A view is taken and left: how many changes in turn it shows. That is twice its epoch, and one more where its datagram has an
-/// answer. None where the answer's bytes are of another epoch.
+/// Takes a view and leaves it. Its moment is twice its epoch, and one more if its datagram has an answer. None if the answer's
+/// bytes are of another epoch.
 fn looked(seat: Seat) -> (Seat, Option<u64>) {
     match seat.view() {
         Ok(view) => {
@@ -31,8 +31,8 @@ fn looked(seat: Seat) -> (Seat, Option<u64>) {
     }
 }
 
-/// Views, one after another, until all is published, and one more: how far that one is. None where a view was none, or
-/// showed less than the one before.
+/// Views, one after another, until all is published, and views once more. Returns the moment of the last view. None if a view
+/// is refused or wrong, or is older than the one before.
 pub fn looked_until(mut seat: Seat, is_done: &AtomicBool) -> Option<u64> {
     let mut last = 0;
     for _ in 0..u64::MAX {

@@ -78,7 +78,7 @@ fn write_once<R: Threads + Wait + Sync>(
     }
 }
 
-/// Writes owed blocks along the line until none is owed or a write fails, and returns how many were written.
+/// Writes owed blocks along the line until none is owed or a write fails, and returns the number of blocks written.
 fn write_all<R: Threads + Wait + Sync>(
     rt: &R,
     alloc: Global,
@@ -94,9 +94,9 @@ fn write_all<R: Threads + Wait + Sync>(
     Ok(count)
 }
 
-/// Writes owed blocks along the line, always the first one, until none is owed or a write fails, and appends how many were
-/// written and how many are owed then. It allocates for the line first. Returns a `RefusedGrowth` if an allocation fails; then
-/// what was done before is done.
+/// Writes owed blocks along the line, always the first one, until none is owed or a write fails. Appends the numbers of blocks
+/// written and of blocks owed then. It allocates for the line first. Returns a `RefusedGrowth` if an allocation fails; the
+/// steps before it stay done.
 #[tactic(auto, unfolding(crate::specs::Programs::program_text))]
 pub fn reply<R: Threads + Wait + Sync>(
     rt: &R,

@@ -1,4 +1,4 @@
-//! Each call of the master that takes memory: where a growth is refused nothing has changed, and asked again it goes on.
+//! Each call of the master that allocates. If an allocation fails, nothing has changed, and the repeated call succeeds.
 use crate::one_thread::growths::Call::{Arrive, Publish, Send, Write};
 use crate::one_thread::lines::{FRAME, are_inputs, is_sent, is_written, opened, opening};
 use hc_conductor::one_thread::master::Master;
@@ -9,11 +9,11 @@ use std::alloc::{AllocError, Global};
 use std::sync::Wait;
 use std::test::Fail;
 
-/// What is asked.
+/// A call of the master, with the axis' answer.
 enum Call {
     /// The first owed block is written.
     Write,
-    /// What is in the frame arrives.
+    /// The bytes of the frame arrive.
     Arrive,
     /// Task 0 is sent, and the axis answers.
     Send,
@@ -25,7 +25,7 @@ const CALLS: [Call; 11] = [
     Write, Arrive, Write, Arrive, Write, Arrive, Write, Arrive, Send, Arrive, Publish,
 ];
 
-/// Whether it goes as it is to; none where memory was wanted.
+/// Makes a call. True if its result is the expected one, and none if an allocation failed.
 fn ask<R: Wait>(
     rt: &R,
     alloc: Global,
@@ -48,13 +48,13 @@ fn ask<R: Wait>(
     }
 }
 
-/// What can be seen of a master: its next serial, and its owed blocks.
+/// The observable state of a master: its next serial, and its owed blocks.
 fn seen(master: &Master) -> (u64, u32) {
     let core = master.core();
     (core.next_serial(), core.owed())
 }
 
-/// Asks, and asks again where memory was wanted and nothing has changed.
+/// Makes a call, and repeats it once if an allocation failed. False if a result is wrong, or the failed call changed something.
 fn asked<R: Wait>(
     rt: &R,
     alloc: Global,
@@ -72,7 +72,7 @@ fn asked<R: Wait>(
     ask(rt, alloc, master, frame, call).ok_or(AllocError)
 }
 
-/// Whether all of it goes as it is to, and the input is viewed.
+/// True if each call has its result, and the input is viewed.
 fn all_asked<R: Wait>(rt: &R, alloc: Global, master: &mut Master) -> Result<bool, AllocError> {
     let mut frame = [0; FRAME];
     for call in &CALLS {
@@ -83,7 +83,8 @@ fn all_asked<R: Wait>(rt: &R, alloc: Global, master: &mut Master) -> Result<bool
     Ok(matches!(master.view(0, 2), Ok(viewed) if viewed.value == Ok(2612)))
 }
 
-/// Whether all goes so from the opening on, opened again where memory was wanted and for no other cause.
+/// True if all calls have their results, from the opening on. The line is opened once more if an allocation failed, and for no
+/// other cause.
 fn is_gone<R: Wait>(rt: &R, alloc: Global) -> Result<bool, AllocError> {
     let mut master = match opening(rt, alloc) {
         Ok(master) => master,
@@ -95,7 +96,7 @@ fn is_gone<R: Wait>(rt: &R, alloc: Global) -> Result<bool, AllocError> {
     gone
 }
 
-/// A refused growth changes nothing in any call of the master, and the call succeeds when it is repeated.
+/// A failed allocation changes nothing in any call of the master, and the repeated call succeeds.
 #[test]
 fn refused_growths_change_nothing(rt: HostRuntime) -> Result<(), Fail> {
     assert!(rt; is_gone(&rt, rt.alloc())?);

@@ -10,7 +10,7 @@ use worked_views::projects::{AXIS, project_of};
 /// The bytes of each frame of this line: no datagram fills more than the shortest frame.
 pub const FRAME: usize = 60;
 
-/// The line at its opening, or why it isn't opened.
+/// The line at its opening, or the fault.
 pub fn opening<R: Wait>(rt: &R, alloc: Global) -> Result<Master, OpenFault> {
     match project_of(alloc, &[AXIS]) {
         Some(project) => open(rt, alloc, project),
@@ -23,8 +23,8 @@ pub fn opened<R: Wait>(rt: &R, alloc: Global) -> Option<Master> {
     opening(rt, alloc).ok()
 }
 
-/// Whether the first owed block is sent, and what is in the frame once its slave has it: its counter is after 26 bytes of
-/// headers and the block, whose length the datagram gives.
+/// Writes the first owed block into a frame, and counts it as its slave does. True if there is such a write. The working
+/// counter is after 26 bytes of headers and the block, whose length the datagram gives.
 pub fn is_written(master: &mut Master, frame: &mut [u8; FRAME]) -> bool {
     let Ok(FRAME) = master.next_write(frame) else {
         return false;
@@ -37,8 +37,8 @@ pub fn is_written(master: &mut Master, frame: &mut [u8; FRAME]) -> bool {
     true
 }
 
-/// Whether one frame was sent with this byte of outputs, and what is in it once the axis has answered: two bytes of inputs, 0xa34,
-/// and the counter 3, 2 for the outputs and 1 for the inputs.
+/// Makes the axis' answer of a frame: two bytes of inputs, 0xa34, and the counter 3, which is 2 for the outputs and 1 for the
+/// inputs. True if one frame was sent with this byte of outputs.
 fn is_answered(frames: usize, outputs: u8, frame: &mut [u8; FRAME]) -> bool {
     let is_right = frames == 1 && frame[26] == outputs;
     frame[27] = 0x34;
@@ -47,7 +47,7 @@ fn is_answered(frames: usize, outputs: u8, frame: &mut [u8; FRAME]) -> bool {
     is_right
 }
 
-/// Whether task 0 is sent with this byte of outputs, and what is in the frame once the axis has answered.
+/// Sends task 0, and makes the axis' answer of the frame. True if one frame was sent with this byte of outputs.
 pub fn is_sent(alloc: Global, master: &mut Master, outputs: u8, frame: &mut [u8; FRAME]) -> bool {
     match master.send(alloc, &[0], frame) {
         Ok(frames) => is_answered(frames.len(), outputs, frame),
@@ -55,7 +55,7 @@ pub fn is_sent(alloc: Global, master: &mut Master, outputs: u8, frame: &mut [u8;
     }
 }
 
-/// Whether task 0 is sent as a ready task with this byte of outputs, and what is in the frame once the axis has answered.
+/// Sends task 0 as a ready task, and makes the axis' answer of the frame. True if one frame was sent with this byte of outputs.
 pub fn is_ready_sent(
     alloc: Global,
     master: &mut Master,
@@ -68,7 +68,7 @@ pub fn is_ready_sent(
     }
 }
 
-/// Whether an arrival is reported as inputs of the axis' datagram.
+/// True if an arrival is reported as inputs of the axis' datagram.
 pub fn are_inputs(answer: &Answer) -> bool {
     let Answer::Answered(outcomes) = answer else {
         return false;

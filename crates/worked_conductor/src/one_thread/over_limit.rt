@@ -1,4 +1,4 @@
-//! A project whose opening line is too over its limit isn't opened.
+//! A project whose opening line needs too many datagrams is not opened.
 use crate::over_limit::line_over_limit;
 use hc_conductor::one_thread::open;
 use hc_publish::faults::OpenFault;
@@ -6,7 +6,7 @@ use std::alloc::{AllocError, Global};
 use std::sync::Wait;
 use std::test::Fail;
 
-/// Why the over its limit line isn't opened; none where it is.
+/// The fault by which the line is refused. None if it is opened.
 fn refusal<R: Wait>(rt: &R, alloc: Global, slaves: u32) -> Result<Option<OpenFault>, AllocError> {
     match open(rt, alloc, line_over_limit(alloc, slaves)?) {
         Ok(master) => {
@@ -17,7 +17,7 @@ fn refusal<R: Wait>(rt: &R, alloc: Global, slaves: u32) -> Result<Option<OpenFau
     }
 }
 
-/// Sixteen datagrams are a task's most. Where two tasks need one more, the lower one is reported.
+/// A task has at most sixteen datagrams. If two tasks need one more, the lower one is reported.
 #[test]
 fn a_over_limit_project_names_its_lowest_task(rt: HostRuntime) -> Result<(), Fail> {
     let alloc = rt.alloc();

@@ -1,4 +1,4 @@
-//! What comes of posts in one thread: rows worked out by hand.
+//! Results of posts in one thread: rows worked out by hand.
 use crate::one_thread::steps::Step::{Exchange, Post, Publish, Remap, Take, Write};
 use crate::one_thread::steps::{Step, wrong_step};
 use hc_conductor::one_thread::refusals::PostRefusal::{
@@ -32,7 +32,7 @@ const FOUR: Setting = Setting {
     value: 4,
 };
 
-/// Its input, one value that is too wide for it, and two numbers that are no variable's.
+/// The axis' input, one value that is too wide for it, and two numbers that are no variable's.
 const INPUT: Setting = Setting {
     variable: 2,
     value: 1,
@@ -116,7 +116,7 @@ const ROWS: [&[Step]; 6] = [
         Take(0, 0),
         Exchange(1),
     ],
-    // posts are taken in order, and an output that isn't named is 0
+    // posts are taken in order, and an output that is not named is 0
     &[
         Write(4),
         Post(0, &[THREE], Ok(())),

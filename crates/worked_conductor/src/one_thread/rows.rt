@@ -1,4 +1,4 @@
-//! What comes of views and publishings in one thread: rows worked out by hand.
+//! Results of views and publishings in one thread: rows worked out by hand.
 use crate::one_thread::steps::Step::{
     Exchange, ExchangeReady, Forget, Publish, Remap, Take, View, Wait, Write,
 };

@@ -1,4 +1,4 @@
-//! What is done with the axis' master, and what is to come of it.
+//! Steps of the axis' master, each with its result.
 use crate::one_thread::lines::{FRAME, are_inputs, is_ready_sent, is_sent, is_written, opened};
 use hc_conductor::one_thread::master::Master;
 use hc_conductor::one_thread::refusals::PostRefusal;
@@ -11,13 +11,13 @@ use hc_records::items::Items;
 use std::alloc::Global;
 use std::sync::Wait;
 
-/// A step, with what is to come of it.
+/// A step, with its result.
 pub enum Step {
-    /// Each owed block is written and answered well: so many.
+    /// Each owed block is written and answered well. There are this many.
     Write(u32),
     /// A task posts values.
     Post(u8, &'static [Setting], Result<(), PostRefusal>),
-    /// All that waits is taken: so many posts are accepted, and so many refused.
+    /// All waiting posts are taken: this many are accepted, and this many refused.
     Take(u32, u32),
     /// The inputs are mapped anew as they are: the epoch that begins with it.
     Remap(u32),
@@ -25,7 +25,7 @@ pub enum Step {
     Exchange(u8),
     /// Task 0 is sent as a ready task with this byte, and answered well.
     ExchangeReady(u8),
-    /// Task 0 is not sent as a ready task: so many owed blocks concern it.
+    /// Task 0 is not sent as a ready task, since this many owed blocks concern it.
     Wait(u32),
     /// The axis is forgotten, so its four blocks are owed.
     Forget,
@@ -35,7 +35,7 @@ pub enum Step {
     View(u8, u32, u32, Result<u64, u8>),
 }
 
-/// Whether so many blocks are owed, and written.
+/// Writes `blocks` owed blocks. True if each write is done and no block is owed then.
 fn are_written(alloc: Global, master: &mut Master, blocks: u32) -> bool {
     let mut frame = [0; FRAME];
     for _ in 0..blocks {
@@ -49,7 +49,7 @@ fn are_written(alloc: Global, master: &mut Master, blocks: u32) -> bool {
     master.core().owed() == 0
 }
 
-/// Whether the inputs can be mapped anew as they are, which moves nothing.
+/// Maps the inputs anew as they are. True if the edit is accepted and moves nothing.
 fn is_mapped(alloc: Global, master: &mut Master, begun: u32) -> bool {
     let Ok(indexes) = Vec::from_slice(alloc, &[0x1a00]) else {
         return false;
@@ -69,19 +69,19 @@ fn is_mapped(alloc: Global, master: &mut Master, begun: u32) -> bool {
     }
 }
 
-/// Whether task 0 is sent with this byte, and answered well.
+/// Sends task 0. True if its outputs are this byte, and its answer brings inputs.
 fn is_exchanged(alloc: Global, master: &mut Master, outputs: u8) -> bool {
     let mut frame = [0; FRAME];
     is_sent(alloc, master, outputs, &mut frame) && are_inputs(&master.arrive(alloc, &frame))
 }
 
-/// Whether task 0 is sent as a ready task with this byte, and answered well.
+/// Sends task 0 as a ready task. True if its outputs are this byte, and its answer brings inputs.
 fn is_ready_exchanged(alloc: Global, master: &mut Master, outputs: u8) -> bool {
     let mut frame = [0; FRAME];
     is_ready_sent(alloc, master, outputs, &mut frame) && are_inputs(&master.arrive(alloc, &frame))
 }
 
-/// Whether task 0 waits for so many owed blocks, and for no register outside the line.
+/// True if task 0 waits for this many owed blocks, and for no register outside the line.
 fn waits(alloc: Global, master: &mut Master, blocks: u32) -> bool {
     let mut frame = [0; FRAME];
     let wanted = CoreFault::Waits {
@@ -95,7 +95,7 @@ fn waits(alloc: Global, master: &mut Master, blocks: u32) -> bool {
     }
 }
 
-/// Whether a task, 0 to 7, views this of a variable.
+/// True if a task, 0 to 7, views a variable in this epoch with this value or fault.
 fn is_viewed(
     master: &mut Master,
     task: u8,
@@ -113,7 +113,7 @@ fn is_viewed(
     viewed.epoch == epoch && is_valued
 }
 
-/// Whether a step comes so.
+/// True if a step has its result.
 fn comes<R: Wait>(rt: &R, alloc: Global, master: &mut Master, step: &Step) -> bool {
     match step {
         Step::Write(blocks) => are_written(alloc, master, *blocks),
@@ -137,7 +137,7 @@ fn comes<R: Wait>(rt: &R, alloc: Global, master: &mut Master, step: &Step) -> bo
     }
 }
 
-/// The number of the first step that doesn't come so, from the axis' opening on; their number where all do.
+/// The number of the first step with another result, from the axis' opening on. The number of steps if there is none.
 pub fn wrong_step<R: Wait>(rt: &R, alloc: Global, steps: &[Step]) -> Option<usize> {
     let mut master = opened(rt, alloc)?;
     let mut number: usize = 0;

@@ -3,7 +3,7 @@ ghost use Rattle.std.specs.Prelude.{◌+◌, ◌*◌, ◌≤◌, ◌↔◌, leng
 
 use hc_bits::{copy_bits, get_bits, put_bits};
 
-/// Whether the run lies in the slice, which has at most 32 bytes.
+/// True if the run of `n` bits from the bit `at` on lies in the slice, which has at most 32 bytes.
 fn is_run(bytes: &[u8], at: usize, n: usize) -> bool
     requires { length bytes.now ≤ 32 }
     ensures { IsTrue result ↔ (at + n ≤ 8 * length bytes.now) }
@@ -19,7 +19,7 @@ const DIGITS: [u8; 12] = [
     0x10, 0x32, 0x54, 0x76, 0x98, 0xba, 0xdc, 0xfe, 0x10, 0x32, 0x54, 0x76,
 ];
 
-/// A bit of `READ`, how many bits are from there, and their value.
+/// A run of bits in `READ`, as its first bit and its number of bits, and its value.
 type Read = (usize, usize, u64);
 
 const READS: [Read; 24] = [
@@ -49,13 +49,13 @@ const READS: [Read; 24] = [
     (80, 0, 0),
 ];
 
-/// Whether this value is read.
+/// True if the row's value is read.
 fn is_read(row: &Read) -> bool {
     let (at, n, value) = *row;
     n <= 64 && is_run(&READ, at, n) && get_bits(&READ, at, n) == value
 }
 
-/// The bit and the count of the first row that isn't read.
+/// The first bit and the number of bits of the first row that is not read. None if all are.
 fn misread(rows: &[Read]) -> Option<(usize, usize)> {
     for row in rows {
         if !is_read(row) {
@@ -65,7 +65,8 @@ fn misread(rows: &[Read]) -> Option<(usize, usize)> {
     None
 }
 
-/// What every byte is before, where, how many bits, which value, and what the bytes are after.
+/// A write of a run: the value of every byte before, the run's first bit and its number of bits, the value, and the bytes
+/// after.
 type Put = (u8, usize, usize, u64, [u8; 10]);
 
 const PUTS: [Put; 10] = [
@@ -117,7 +118,7 @@ const PUTS: [Put; 10] = [
     ),
 ];
 
-/// Whether this value is put.
+/// True if the row's write leaves the row's bytes.
 fn is_put(row: &Put) -> bool {
     let (before, at, n, value, after) = *row;
     let mut bytes = [before; 10];
@@ -128,7 +129,7 @@ fn is_put(row: &Put) -> bool {
     bytes == after
 }
 
-/// The bit and the count of the first row that isn't put.
+/// The first bit and the number of bits of the first row that is not written. None if all are.
 fn misput(rows: &[Put]) -> Option<(usize, usize)> {
     for row in rows {
         if !is_put(row) {
@@ -138,8 +139,8 @@ fn misput(rows: &[Put]) -> Option<(usize, usize)> {
     None
 }
 
-/// From where in `DIGITS`, what every byte is before, to where, how many bits, and what the bytes are
-/// after.
+/// A copy of a run: its first bit in `DIGITS`, the value of every byte before, its first bit in the copy, its number of bits,
+/// and the bytes after.
 type Copied = (usize, u8, usize, usize, [u8; 12]);
 
 const COPIES: [Copied; 8] = [
@@ -193,7 +194,7 @@ const COPIES: [Copied; 8] = [
     (92, 0, 3, 4, [0x38, 0, 0, 0, 0, 0, 0, 0, 0, 0, 0, 0]),
 ];
 
-/// Whether these bits are copied.
+/// True if the row's copy leaves the row's bytes.
 fn is_copied(row: &Copied) -> bool {
     let (at, before, at2, n, after) = *row;
     let mut bytes = [before; 12];
@@ -204,7 +205,7 @@ fn is_copied(row: &Copied) -> bool {
     bytes == after
 }
 
-/// The bits, from and to, and the count of the first row that isn't copied.
+/// The first bits, from and to, and the number of bits of the first row that is not copied. None if all are.
 fn miscopied(rows: &[Copied]) -> Option<(usize, usize, usize)> {
     for row in rows {
         if !is_copied(row) {

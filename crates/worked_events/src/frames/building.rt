@@ -10,10 +10,10 @@ use std::test::Fail;
 
 const OLD: u8 = 0xa5;
 
-/// Bytes that are to be from a place of a frame on.
+/// An offset in a frame, and the bytes that are to be there.
 type Piece = (usize, &'static [u8]);
 
-/// Whether bytes are from a place of a frame on.
+/// True if a frame has these bytes at this offset.
 fn is_placed(out: &[u8], at: usize, bytes: &[u8]) -> bool {
     match out.get(at..) {
         Some(rest) => rest.starts_with(bytes),
@@ -21,7 +21,7 @@ fn is_placed(out: &[u8], at: usize, bytes: &[u8]) -> bool {
     }
 }
 
-/// Whether each of the pieces is at its place.
+/// True if a frame has each of the pieces at its offset.
 fn are_placed(out: &[u8], pieces: &[Piece]) -> bool {
     for (at, bytes) in pieces {
         if !is_placed(out, *at, *bytes) {
@@ -31,8 +31,8 @@ fn are_placed(out: &[u8], pieces: &[Piece]) -> bool {
     true
 }
 
-/// Whether the sixteen bytes before the datagrams are those of a sending with a serial below 256 and with these
-/// two bytes of the header.
+/// True if the sixteen bytes before the datagrams are those of a sending with this serial, below 256, and with these two bytes
+/// of the EtherCAT header.
 fn has_head(out: &[u8], serial: u8, low: u8, high: u8) -> bool {
     let head = [
         255, 255, 255, 255, 255, 255, 2, 0, 0, 0, 0, serial, 0x88, 0xa4, low, high,
@@ -53,7 +53,8 @@ const FILLED: [Piece; 2] = [
 
 const LONGEST: [Piece; 3] = [(14, &[0xda, 0x15]), (22, &[0xce, 0x05]), (1511, &[1, 0, 0])];
 
-/// Whether a frame of process data hands out zeros, and has such a head and these pieces once each of them is filled.
+/// Builds a frame of process data, and fills its data. True if they were zeros before, and the frame has this head and these
+/// pieces.
 fn is_built(
     out: &mut [u8],
     serial: u8,
@@ -105,7 +106,7 @@ fn process_data_are_built(rt: HostRuntime) {
     assert_eq!(rt; (are_built, frame_size(1486)), ([true; 3], 1514));
 }
 
-/// How many of the five calls say that 60 bytes are needed.
+/// The number of the five calls that fail since 60 bytes are needed.
 fn calls_without_room(out: &mut [u8]) -> usize
     requires { length out.old ≡ 59 }
 {
@@ -119,7 +120,7 @@ fn calls_without_room(out: &mut [u8]) -> usize
     calls.iter().filter(|call| **call).count()
 }
 
-/// Each of the five calls refuses 59 bytes, asks for 60, and leaves them as they were.
+/// Each of the five calls fails for a buffer of 59 bytes, asks for 60, and leaves the buffer as it was.
 #[test]
 fn room_for_process_data(rt: HostRuntime) {
     let mut out = [OLD; 59];
@@ -193,7 +194,7 @@ fn two_tasks_in_one_frame(rt: HostRuntime) -> Result<(), Fail> {
 /// The second datagram of the two.
 const SECOND: [u8; 13] = [0x0c, 6, 0, 0, 0, 2, 1, 0, 0, 0, 2, 0, 0];
 
-/// Whether it is built in its piece.
+/// True if the second datagram is built with these bytes.
 fn is_second_built() -> bool {
     let mut second = [OLD; 13];
     let data = build_datagram(&mut second, 6, 0x0200_0000, 1, false);
@@ -201,10 +202,10 @@ fn is_second_built() -> bool {
     second == SECOND
 }
 
-/// The first of them without its data.
+/// The first datagram of the two, with zeros as its data.
 const FIRST: [u8; 14] = [0x0c, 6, 0, 0, 0, 1, 2, 0x80, 0, 0, 0, 0, 0, 0];
 
-/// Whether it is built in its piece.
+/// True if the first datagram is built with these bytes, and its data are handed out as zeros.
 fn is_first_built() -> bool {
     let mut first = [OLD; 14];
     let data = build_datagram(&mut first, 6, 0x0100_0000, 2, true);

@@ -14,11 +14,10 @@ fn fault_of(frame: &[u8]) -> Option<FrameFault> {
     read_frame(frame).err()
 }
 
-/// A datagram that is to be read: where it begins, its command, its address, its interrupt field, its data
-/// and its working counter.
+/// A datagram that is to be read: its offset, its command, its address, its interrupt field, its data and its working counter.
 type Wanted = (usize, Command, u32, u16, &'static [u8], u16);
 
-/// Whether a datagram is that.
+/// True if a datagram has these fields.
 fn is_wanted(part: &Part, wanted: &Wanted) -> bool {
     let (start, command, address, interrupt, bytes, counter) = wanted;
     part.start == *start
@@ -29,7 +28,7 @@ fn is_wanted(part: &Part, wanted: &Wanted) -> bool {
         && part.counter == *counter
 }
 
-/// Whether a frame has these datagrams and no more, each as the walk gives it and by its number.
+/// True if a frame has exactly these datagrams, each as the walk gives it and by its number.
 fn are_wanted(returned: &Returned, wanted: &[Wanted]) -> bool {
     let mut number = 0;
     for (part, row) in returned.parts().zip(wanted) {
@@ -47,7 +46,7 @@ fn are_wanted(returned: &Returned, wanted: &[Wanted]) -> bool {
         && returned.get(number).is_none()
 }
 
-/// Whether a frame is read with a serial and with these datagrams.
+/// True if a frame is read with this serial and with exactly these datagrams.
 fn is_read(frame: &[u8], serial: u64, wanted: &[Wanted]) -> Result<bool, FrameFault> {
     let returned = read_frame(frame)?;
     Ok(returned.serial() == serial && are_wanted(&returned, wanted))
@@ -107,7 +106,7 @@ fn frames_are_read(rt: HostRuntime) -> Result<(), Fail> {
     Ok(())
 }
 
-/// Two datagrams with some of their bytes changed: the fault that comes first, whatever else is wrong.
+/// The fault that is found first in two datagrams with some of their bytes changed. None if they can be read.
 fn fault_with(changes: &[(usize, u8)]) -> Option<FrameFault> {
     let mut frame = TWO;
     for (at, value) in changes {
@@ -118,7 +117,7 @@ fn fault_with(changes: &[(usize, u8)]) -> Option<FrameFault> {
     fault_of(&frame)
 }
 
-/// Changes, and the fault that comes first.
+/// Changed bytes of the two datagrams, and the fault that is found first.
 const FIRST_FAULTS: [(&[(usize, u8)], FrameFault); 9] = [
     (&[(12, 0x89), (15, 0x20)], FrameFault::NotEtherCat),
     (&[(15, 0x20), (14, 0x1c)], FrameFault::BadType),
@@ -131,7 +130,7 @@ const FIRST_FAULTS: [(&[(usize, u8)], FrameFault); 9] = [
     (&[(23, 0xc0)], FrameFault::Circulating),
 ];
 
-/// How many of the rows, from the first on, have their faults.
+/// The number of rows, from the first on, that have their faults.
 fn faults_found(rows: &[(&[(usize, u8)], FrameFault)]) -> usize {
     let mut count = 0;
     for (changes, fault) in rows {
@@ -152,7 +151,7 @@ const LENGTHS: [(u16, u16, Option<FrameFault>); 5] = [
     (1499, 1487, Some(FrameFault::BadLength)),
 ];
 
-/// How many of the rows, from the first on, have their faults.
+/// The number of rows, from the first on, that have their faults.
 fn lengths_judged(rows: &[(u16, u16, Option<FrameFault>)]) -> usize {
     let mut frame = [0; 1600];
     frame[..31].copy_from_slice(&ARRIVED);
@@ -180,7 +179,7 @@ const FAULTS: [FrameFault; 8] = [
     FrameFault::IndexMismatch,
 ];
 
-/// How many of the faults, from the first on, have their places as numbers, from 1 on.
+/// The number of faults, from the first on, whose numbers are their places, from 1 on.
 fn faults_numbered(faults: &[FrameFault]) -> u8 {
     let mut count = 0u8;
     for fault in faults {
@@ -192,7 +191,8 @@ fn faults_numbered(faults: &[FrameFault]) -> u8 {
     count
 }
 
-/// How many cuts of the answer, from the one of no byte on, have their faults: the least datagram ends with the byte 27.
+/// The number of cuts of the answer, from the empty one on, that have their faults. The shortest datagram ends with the byte
+/// 27.
 fn cuts_refused() -> usize {
     for size in 0..31 {
         let fault = if size < 28 {
@@ -207,7 +207,8 @@ fn cuts_refused() -> usize {
     31
 }
 
-/// The header's length against the bytes that are there: 0 and 12 hold no data, 1,499 is over the most.
+/// Cut frames, changed bytes and wrong lengths have the faults that were worked out by hand. A header's length of 0 or 12 holds
+/// no data, and 1,499 is over the most.
 #[test]
 fn frames_are_refused(rt: HostRuntime) {
     let counts = [

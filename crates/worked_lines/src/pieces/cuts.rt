@@ -8,7 +8,7 @@ use hc_records::keys::Key;
 use std::alloc::{AllocError, Global};
 use std::test::Fail;
 
-/// Whether the datagrams of a list begin at these keys.
+/// True if the datagrams of a list begin at these keys.
 fn begin_at(list: &[(Key, u16)], keys: &[Key]) -> bool
     requires { All IsPackable list.now }
 {
@@ -29,7 +29,7 @@ fn filling(alloc: Global, areas: u16) -> Result<Vec<(Key, u16)>, AllocError>
     Ok(list)
 }
 
-/// How many datagrams so many such areas need, none where they are too many.
+/// The number of datagrams that `areas` areas of 1,400 bytes need. None if that is too many.
 fn needed(alloc: Global, areas: u16) -> Result<Option<usize>, AllocError> {
     let list = filling(alloc, areas)?;
     Ok(match fold_cuts(&list) {

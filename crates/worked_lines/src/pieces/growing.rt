@@ -1,5 +1,5 @@
-//! A task whose slaves become more, one at a time, while its areas get other widths: after each of 2,000 edits that are
-//! drawn from a fixed seed its boundaries equal those of the plain fold over its list.
+//! A task whose slaves become more, one at a time, while its areas get other widths. After each of 2,000 edits that are drawn
+//! from a fixed seed, its boundaries equal those of the plain fold over its list.
 ghost use Rattle.std.specs.Prelude.{◌≡◌, ◌+◌, ◌<◌, ◌≤◌, ◌∷◌, ◌++◌, [], All, IfOk, IsTrue, OnOk};
 ghost use Rattle.hc_records.specs.Boundaries.{boundaries};
 ghost use Rattle.hc_records.specs.Laws.{IsPackable};
@@ -17,10 +17,10 @@ use std::marker::Brand;
 use std::sync::ledger::{Blank, Ledger};
 use std::test::Fail;
 
-/// How many slaves there are at most.
+/// The highest number of slaves.
 const MOST: u16 = 128;
 
-/// The bits of each area, 0 where a slave isn't there: an output area of each slave, then an input area of each.
+/// The bits of each area, 0 if its slave is not there: an output area of each slave, then an input area of each.
 type Widths = [u16; 256];
 
 /// The bits that an edit gives an area: so few that 16 datagrams hold them all.
@@ -52,7 +52,7 @@ fn list_of(alloc: Global, widths: &Widths) -> Result<Vec<(Key, u16)>, AllocError
     Ok(list)
 }
 
-/// Whether the boundaries are those of the fold over the list.
+/// True if the boundaries are those of the fold over the list.
 fn are_folded(starts: &[Key], list: &[(Key, u16)]) -> bool
     requires { All IsPackable list.now }
 {
@@ -66,7 +66,7 @@ fn are_folded(starts: &[Key], list: &[(Key, u16)]) -> bool
     }
 }
 
-/// Sets the width of an area of one of so many slaves, and repairs the boundaries. Whether 16 datagrams hold the task.
+/// Sets the width of an area of one of `slaves` slaves, and repairs the boundaries. True if 16 datagrams hold the task.
 fn repaired<L: Ledger>(cuts: &mut Cuts, slaves: u16, area: Width, blank: Blank) -> bool
     requires name { blank.name ≡ L.name }
     requires parts { blank.parts ≡ L.parts }
@@ -95,8 +95,7 @@ fn holds(cuts: &mut Cuts, slaves: u16, area: Width) -> bool
     repaired::<Brand>(cuts, slaves, area, Blank::new(1))
 }
 
-/// Gives the area that a number draws, of one of so many slaves, the bits that it draws. Whether 16 datagrams hold the
-/// task.
+/// Gives an area of one of `slaves` slaves the bits that a number draws. True if 16 datagrams hold the task.
 fn edited(cuts: &mut Cuts, widths: &mut Widths, slaves: u16, number: usize) -> bool
     requires some { 0 < slaves }
     requires few { slaves ≤ 128 }
@@ -119,7 +118,7 @@ fn edited(cuts: &mut Cuts, widths: &mut Widths, slaves: u16, number: usize) -> b
     }
 }
 
-/// Takes in one more slave than so many, in the tree that the task has or in a wider one. Whether it is a wider one.
+/// Admits one more slave than `slaves`, in the tree that the task has or in a wider one. True if it is a wider one.
 fn is_widened(alloc: Global, cuts: &mut Cuts, slaves: u16) -> Result<bool, AllocError>
     requires few { slaves < 128 }
     requires slaves { cuts.old.tree.slaves ≡ slaves }
@@ -137,8 +136,8 @@ fn is_widened(alloc: Global, cuts: &mut Cuts, slaves: u16) -> Result<bool, Alloc
     Ok(!has_room)
 }
 
-/// How many slaves a task that begins with two of them has after 2,000 edits, and how many times its tree became a wider
-/// one; none where its boundaries weren't those of the fold.
+/// The number of slaves that a task of two has after 2,000 edits, and how many times its tree was replaced by a wider one. None
+/// if 16 datagrams did not hold it, or its boundaries were not those of the fold.
 fn grown(alloc: Global) -> Result<Option<(u16, u16)>, AllocError> {
     let mut cuts = Cuts::new(alloc, 2)?;
     let mut widths = [0; 256];

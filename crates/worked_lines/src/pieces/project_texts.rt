@@ -1,5 +1,4 @@
-//! Texts that are read, and texts that are refused. What is read is compared as a listing of every
-//! field, written by hand.
+//! Project texts that are read, compared as a listing of every field that was written by hand, and texts that are refused.
 mod groups;
 mod limits;
 mod projects;

@@ -66,7 +66,7 @@ fn the_first_group_is_the_mandatory_one(rt: HostRuntime) -> Result<(), Fail> {
     Ok(())
 }
 
-/// Whether a project gives the groups back that it was made of.
+/// True if a project gives back the groups of which it was made.
 fn is_given_back(alloc: Global) -> Result<bool, Fail> {
     let groups = groups_of(alloc, &[0, 100])?;
     let copy = groups.copied(alloc)?;
@@ -81,7 +81,7 @@ fn copies_are_the_same(rt: HostRuntime) -> Result<(), Fail> {
     Ok(())
 }
 
-/// Whether a copy of a group that may be declared is the same; the group's fault where it may not.
+/// True if a checked copy of a group is the same. Fails with the group's fault if it may not be declared.
 fn is_copied(alloc: Global, group: &Group) -> Result<bool, ProjectFault> {
     Ok(group.checked(alloc)?.is_same(group))
 }
@@ -98,7 +98,7 @@ fn doubled(alloc: Global, group: &Group) -> Result<Group, AllocError> {
     })
 }
 
-/// A group with alias 0 can't be declared. A tool's group is copied as it is, and refused with `RepeatedStation` once its
+/// A group with alias 0 cannot be declared. A tool's group is copied as it is, and refused with `RepeatedStation` once its
 /// slaves are doubled.
 #[test]
 fn groups_are_judged_alone(rt: HostRuntime) -> Result<(), Fail> {
@@ -119,7 +119,7 @@ fn groups_are_judged_alone(rt: HostRuntime) -> Result<(), Fail> {
     Ok(())
 }
 
-/// The numbers that a list has after it grew by some, one by one, each time in memory that was taken before.
+/// A list of the first `count` numbers, which are pushed one by one, each into memory that was allocated before.
 fn grown(alloc: Global, count: u16) -> Result<Items<u16>, AllocError> {
     let mut list = Items::new(alloc);
     for number in 0..count {

@@ -9,8 +9,8 @@ use hc_registers::sync_manager::{self, sync_block};
 use std::alloc::{AllocError, Global};
 use std::test::Fail;
 
-/// A direction, an address, a width of at most 64 bits and the bit of datagram 0 of task 0 where it begins, with
-/// the bytes of the area's sync manager block and of its FMMU block.
+/// An area and its blocks: direction, address, a width of at most 64 bits, its first bit in datagram 0 of task 0, and the bytes
+/// of its sync manager block and of its FMMU block.
 type Row = (Dir, u16, u8, u16, [u8; 8], [u8; 16]);
 
 /// An output area of 2 bits and an input area of 12 bits after it; the second and the third of three areas of 3
@@ -58,7 +58,7 @@ const ROWS: [Row; 5] = [
     ),
 ];
 
-/// The area of a row, with one variable, which is assigned where it has bits.
+/// The area of a row, with one variable, which is assigned if it has bits.
 fn area(alloc: Global, row: &Row) -> Result<Area, AllocError> {
     let mut entries = Items::new(alloc);
     entries.push((VarId::new(1), row.2))?;
@@ -81,7 +81,7 @@ fn area(alloc: Global, row: &Row) -> Result<Area, AllocError> {
     })
 }
 
-/// Whether an area has a row's blocks.
+/// True if an area has a row's blocks.
 fn has_blocks(area: &Area, row: &Row) -> bool {
     let width = area.width_with(area.assigned.as_slice());
     if width > 64 || row.3 > 64 {

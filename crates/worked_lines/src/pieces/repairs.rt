@@ -19,7 +19,7 @@ use std::test::Fail;
 /// A direction, the rank of a slave, and the bits of its first area of that direction.
 pub type Width = (Dir, u16, u16);
 
-/// Sets widths of some of so many slaves, and answers the hulls of their keys.
+/// Sets widths of some of `slaves` slaves, and returns the hulls of their keys.
 pub fn set_all(cuts: &mut Cuts, slaves: u16, areas: &[Width]) -> Hulls
     requires slaves { cuts.old.tree.slaves ≡ slaves }
     requires holds { HoldsTaskList cuts.old.tree }
@@ -40,7 +40,7 @@ pub fn set_all(cuts: &mut Cuts, slaves: u16, areas: &[Width]) -> Hulls
     hulls
 }
 
-/// Sets widths of a task that is cut, and repairs its boundaries. Whether as many spans aren't settled.
+/// Sets widths of a task that is cut, and repairs its boundaries. True if `spans` spans are not settled.
 fn leaves_counted<L: Ledger>(cuts: &mut Cuts, areas: &[Width], spans: u32, blank: Blank) -> bool
     requires name { blank.name ≡ L.name }
     requires parts { blank.parts ≡ L.parts }
@@ -73,7 +73,7 @@ fn leaves(cuts: &mut Cuts, areas: &[Width], spans: u32) -> bool
     leaves_counted::<Brand>(cuts, areas, spans, Blank::new(1))
 }
 
-/// Whether the first boundaries are `Key::START` and then those of these directions and slaves.
+/// True if the boundaries are `Key::START` and then those of these directions and slaves.
 fn are_starts(starts: &[Key], later: &[(Dir, u16)]) -> bool {
     let [first, rest @ ..] = starts else {
         return false;
@@ -86,11 +86,11 @@ fn are_starts(starts: &[Key], later: &[(Dir, u16)]) -> bool {
     *first == Key::START && rest.len() == later.len()
 }
 
-/// An edit of a task: the widths that it sets, in bits, and how many spans it doesn't leave settled.
+/// An edit of a task: the widths that it sets, in bits, and the number of spans that it does not leave settled.
 type Row = (&'static [Width], u32);
 
-/// Whether edits, one after another, from an empty task on, leave these numbers of spans, and at the
-/// end the datagrams after the first begin at the keys.
+/// Carries out edits from an empty task on. True if each leaves its number of spans unsettled, and the datagrams after the
+/// first then begin at the keys.
 fn are_repaired(alloc: Global, rows: &[Row], later: &[(Dir, u16)]) -> Result<bool, AllocError> {
     let mut cuts = Cuts::new(alloc, 20)?;
     for row in rows {
@@ -102,9 +102,9 @@ fn are_repaired(alloc: Global, rows: &[Row], later: &[(Dir, u16)]) -> Result<boo
     Ok(are_starts(cuts.starts(), later))
 }
 
-/// Tasks: the edits from an empty task on, and the keys where the later datagrams begin after them. An edit in front
-/// reaches two spans; a repair begins below the touched key; it goes over both hulls; a touched task has an unsettled
-/// span; an edit at the end keeps the spans before it.
+/// Tasks: the edits from an empty task on, and the keys at which the later datagrams begin after them. An edit in front reaches
+/// two spans. A repair begins below the touched key, and goes over both hulls. A touched task has an unsettled span. An edit at
+/// the end keeps the spans before it.
 const TASKS: [(&[Row], &[(Dir, u16)]); 5] = [
     (
         &[
@@ -184,7 +184,8 @@ fn edits_reach_spans(rt: HostRuntime) -> Result<(), Fail> {
     Ok(())
 }
 
-/// How many datagrams a task of 16 full ones has after a repair that would give it 17.
+/// The number of datagrams that a task of 16 full ones has after a repair that would give it 17. None if the 16 are refused, or
+/// that repair is not.
 fn left_by_refusal(alloc: Global) -> Result<Option<usize>, AllocError> {
     let mut cuts = Cuts::new(alloc, 20)?;
     let mut full = [(Out, 1, 11_200); 16];

@@ -61,12 +61,12 @@ fn searched<L: Ledger>(tree: &SumTree, from: Key, blank: Blank) -> (Key, Key)
     (found, next_cut(tree, from, &mut steps))
 }
 
-/// What is found from the front.
+/// The result of a search from the front.
 fn from_start(tree: &SumTree) -> (Key, Key) {
     searched::<Brand>(tree, Key::START, Blank::new(1))
 }
 
-/// What is found from an area's key.
+/// The result of a search from an area's key.
 fn from_key(tree: &SumTree, from: Key) -> (Key, Key)
     requires { HasPlace tree.now.slaves from }
 {

@@ -1,6 +1,6 @@
-//! A hundred exchanges among the two thousand edits that `worked_lines` draws: one after each declaration and after every
-//! 22nd edit, accepted or refused, until there are a hundred. Each is an exchange of all eight tasks in turn: frames and
-//! memories are the plain body's.
+//! A hundred exchanges among the two thousand edits that `worked_lines` draws: one after each declaration and after every 22nd
+//! edit, accepted or refused, until there are a hundred. Each is an exchange of all eight tasks in turn. Its frames and
+//! memories are those of the plain body.
 use crate::exchange::machines::machine_of;
 use crate::exchange::model::{PROCESS, Wanted, exchanged, position};
 use hc_exchange::exchange;
@@ -44,7 +44,7 @@ fn segment(alloc: Global, line: &Line, memories: &[u8]) -> Result<Segment, Alloc
     Ok(Segment::of(machines))
 }
 
-/// Whether the machines' process memories are these.
+/// True if the machines have exactly these process memories.
 fn hold(segment: &Segment, memories: &[u8]) -> bool {
     let mut rest = memories;
     for machine in segment.machines() {
@@ -56,7 +56,7 @@ fn hold(segment: &Segment, memories: &[u8]) -> bool {
     rest.is_empty()
 }
 
-/// Whether a frame brings a datagram: with its serial, address, data and counter.
+/// True if a frame brings one datagram, with this serial, address, data and counter.
 fn brings(frame: &[u8], serial: u64, address: u32, data: Option<&[u8]>, counter: u16) -> bool {
     let Ok(read) = read_frame(frame) else {
         return false;
@@ -73,7 +73,7 @@ fn brings(frame: &[u8], serial: u64, address: u32, data: Option<&[u8]>, counter:
     }
 }
 
-/// Whether the frames bring what is wanted of a task, with serials from one on.
+/// True if the frames bring the wanted datagrams of a task, with serials from the given one on.
 fn bring(frames: &[Vec<u8>], task: u8, serial: u64, wanted: &Wanted) -> bool {
     let (mut rest, mut number) = (wanted.data.as_slice(), 0_u32);
     if frames.len() != wanted.datagrams.len() {
@@ -98,7 +98,8 @@ fn bring(frames: &[Vec<u8>], task: u8, serial: u64, wanted: &Wanted) -> bool {
     rest.is_empty()
 }
 
-/// Whether an exchange of a task is as the plain body says, with these process memories, which are then as it leaves them.
+/// Exchanges a task. True if the frames and the process memories after it are those that the plain body computes, which are
+/// then in `memories`.
 fn is_right(
     alloc: Global,
     plan: &Plan,
@@ -115,7 +116,7 @@ fn is_right(
     Ok(bring(&frames, task, serial, &wanted) && hold(&segment, memories))
 }
 
-/// Whether an exchange of each task is, one after another, from drawn process memories on.
+/// True if an exchange of each task is right, one after another, from drawn process memories on.
 fn are_right(alloc: Global, plan: &Plan, line: &Line, state: &mut u64) -> Result<bool, AllocError> {
     let slaves = position(line, 64);
     let mut memories = drawn_bytes(alloc, state, PROCESS.saturating_mul(slaves))?;
@@ -127,8 +128,7 @@ fn are_right(alloc: Global, plan: &Plan, line: &Line, state: &mut u64) -> Result
     Ok(true)
 }
 
-/// The edits after which exchanges were right: how many they are, how many of them declared a group, and how many were
-/// refused.
+/// The edits after which exchanges were right: the number of all, of accepted declarations, and of refused edits.
 #[derive(Clone, Copy, Debug, Default, PartialEq, Eq)]
 struct Count {
     all: u32,
@@ -150,7 +150,7 @@ impl Count {
     }
 }
 
-/// Runs the edits, with exchanges among them, until one isn't right or there are a hundred.
+/// Runs the edits, with exchanges among them, until an exchange is not right or there are a hundred.
 fn count_right(alloc: Global) -> Result<Count, Fail> {
     let mut plan = Plan::new(alloc, Project::checked(alloc, groups(alloc)?)?)?;
     let (mut drawing, mut state) = (Drawing::begin(), 20_261_126_u64);

@@ -13,7 +13,7 @@ pub fn machine_of(alloc: Global, station: u16) -> Result<SlaveMachine, AllocErro
     Ok(machine)
 }
 
-/// Writes bytes to a memory from a register on, as far as they have room.
+/// Writes bytes to a memory from a register on, if they have room.
 fn put(machine: &mut SlaveMachine, register: u16, bytes: &[u8]) {
     let at = usize::from(register);
     if at <= 12_288 && bytes.len() <= 12_288 - at {
@@ -39,7 +39,7 @@ pub fn segment_of(alloc: Global, plan: &Plan, pieces: &[Piece]) -> Result<Segmen
     Ok(Segment::of(machines))
 }
 
-/// Whether bytes are from a place on.
+/// True if bytes have the wanted ones at this offset.
 pub fn is_placed(bytes: &[u8], at: usize, wanted: &[u8]) -> bool {
     match bytes.get(at..) {
         Some(rest) => rest.starts_with(wanted),
@@ -47,7 +47,7 @@ pub fn is_placed(bytes: &[u8], at: usize, wanted: &[u8]) -> bool {
     }
 }
 
-/// Whether these bytes are in the machines.
+/// True if these bytes are in the machines' memories.
 pub fn are_placed(segment: &Segment, pieces: &[Piece]) -> bool {
     let machines = segment.machines();
     for (position, register, wanted) in pieces {

@@ -8,7 +8,7 @@ use worked_lines::drawn::{AREAS, ASSIGNED, ENTRY_BITS, Line, PDOS};
 /// Bytes of process memory, which begins at 0x1000; the output area begins there, and the input area 4,096 bytes later.
 pub const PROCESS: usize = 8192;
 
-/// Where the input area begins in process memory.
+/// The offset of the input area in process memory.
 const INPUTS: usize = 4096;
 
 /// The most bits of a datagram.
@@ -23,22 +23,22 @@ struct Location {
     bits: usize,
 }
 
-/// What an exchange is to bring back: of each datagram its bytes and its working counter, and the data of all, one after
+/// The expected result of an exchange: the size and the working counter of each datagram, and the data of all, one after
 /// another.
 #[derive(Drop)]
 pub struct Wanted {
-    /// Bytes and counter of each datagram.
+    /// Size and counter of each datagram.
     pub datagrams: Vec<(usize, u16)>,
     /// The data.
     pub data: Vec<u8>,
 }
 
-/// Whether an area is one of inputs.
+/// True if an area is one of inputs.
 fn is_input(area: usize) -> bool {
     area >= 64
 }
 
-/// Adds the bits of a PDO one by one: whether each is a variable's. The first entry is one, the second a gap, and so on.
+/// Adds the bits of a PDO one by one, true for those of a variable. The first entry is a variable, the second a gap, and so on.
 fn add_bits(bits: &mut Vec<bool>, pdo: u16) -> Result<(), AllocError> {
     let Some(own) = PDOS.get(usize::from(pdo)) else {
         return Ok(());
@@ -60,7 +60,7 @@ fn variable_bits(alloc: Global, assigned: u8) -> Result<Vec<bool>, AllocError> {
     Ok(bits)
 }
 
-/// A bit of bytes, the least significant of the first one first; none after their end.
+/// A bit of bytes, by its number from the least significant bit of the first byte on. False after the end.
 fn get(bytes: &[u8], bit: usize) -> bool {
     match bytes.get(bit / 8) {
         Some(byte) => byte >> (bit % 8) & 1 == 1,
@@ -76,7 +76,7 @@ fn set(bytes: &mut [u8], bit: usize, value: bool) {
     }
 }
 
-/// How many slaves of the line are before a slave.
+/// The number of slaves of the line before a slave.
 pub fn position(line: &Line, slave: usize) -> usize {
     let mut count = 0_usize;
     for other in 0..64 {
@@ -151,8 +151,8 @@ fn carry(
     Ok(())
 }
 
-/// What an exchange of a task is to bring back, with an image of outputs; and it leaves the process memories of the line's
-/// slaves, which are one after another, as they are to be then.
+/// The expected result of an exchange of a task with an image of outputs. It also leaves the expected process memories of the
+/// line's slaves, which are one after another.
 pub fn exchanged(
     line: &Line,
     alloc: Global,
@@ -174,7 +174,7 @@ pub fn exchanged(
     Ok(Wanted { datagrams, data })
 }
 
-/// The bytes of the first datagrams, so many.
+/// The number of bytes of the first `count` datagrams.
 fn offset(datagrams: &[(usize, u16)], count: usize) -> usize {
     let mut bytes = 0_usize;
     for (own, _) in datagrams.iter().take(count) {

@@ -46,7 +46,7 @@ const IN_TASK_2: &[u8; 16] = &[0, 0, 0, 3, 1, 0, 0, 7, 0x00, 0x12, 0, 2, 1, 0, 0
 /// An FMMU that writes the first 8 bits of task 0 to 0x1200.
 const IN_TASK_0: &[u8; 16] = &[0, 0, 0, 1, 1, 0, 0, 7, 0x00, 0x12, 0, 2, 1, 0, 0, 0];
 
-/// The plan at its opening, where the axis is alone.
+/// The plan at its opening, with the axis alone.
 fn plan_of(alloc: Global) -> Result<Plan, Fail> {
     let project = read_project(alloc, TOOL_CHANGER.as_bytes())?;
     Ok(Plan::new(alloc, project)?)
@@ -69,7 +69,7 @@ fn wire(alloc: Global, plan: &Plan, tool: SlaveMachine) -> Result<Segment, Alloc
     Ok(Segment::of(machines))
 }
 
-/// Whether one frame came back that begins with these bytes.
+/// True if one frame came back, and it begins with these bytes.
 fn is_returned(frames: &[Vec<u8>], wanted: &[u8]) -> bool {
     match frames {
         [frame] => is_placed(frame, 0, wanted),
@@ -77,7 +77,7 @@ fn is_returned(frames: &[Vec<u8>], wanted: &[u8]) -> bool {
     }
 }
 
-/// Whether task 0 of a plan is exchanged with the axis's outputs 2 while a tool is on the wire: this frame comes back, and the
+/// Exchanges task 0 of a plan with the axis's outputs 2 while a tool is on the wire. True if this frame comes back, and the
 /// tool's outputs are then these.
 fn is_exchanged(
     alloc: Global,
@@ -135,7 +135,7 @@ fn a_task_without_datagrams_brings_nothing(rt: HostRuntime) -> Result<(), Fail> 
     Ok(())
 }
 
-/// Whether the machines of two segments hold the same, one after another.
+/// True if the machines of two segments have the same memories, one after another.
 fn are_alike(segment: &Segment, other: &Segment) -> bool {
     match (segment.machines(), other.machines()) {
         ([axis, tool], [other_axis, other_tool]) => {
@@ -145,7 +145,8 @@ fn are_alike(segment: &Segment, other: &Segment) -> bool {
     }
 }
 
-/// The sweep refuses each growth of this test in turn: the machines are then as they were.
+/// A ready exchange whose allocation fails leaves the machines as they were. `ci/sweep.sh` makes each allocation of this test
+/// fail in turn.
 #[test]
 fn machines_stay_where_a_ready_exchange_is_refused(rt: HostRuntime) -> Result<(), Fail> {
     let alloc = rt.alloc();

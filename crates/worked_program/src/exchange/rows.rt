@@ -1,4 +1,4 @@
-//! Worked rows: what one exchange sends, what comes back, and what the slaves then hold.
+//! Worked rows of one exchange each: the frame that comes back, and the slaves' memories after it.
 use crate::exchange::machines::{Piece, are_placed, is_placed, segment_of};
 use hc_exchange::{exchange, program};
 use hc_plan::plan::Plan;
@@ -39,8 +39,8 @@ slave = [
 ]
 "#;
 
-/// One exchange: the project, bytes before, the task and its outputs, the frame that comes back up to its working counter,
-/// and bytes then.
+/// One exchange: the project, bytes of the memories before, the task and its outputs, the frame that comes back up to its
+/// working counter, and bytes of the memories after.
 struct Row {
     project: &'static str,
     before: &'static [Piece],
@@ -50,7 +50,7 @@ struct Row {
     after: &'static [Piece],
 }
 
-/// What comes back of the first slave's datagram, up to its working counter.
+/// The frame with the first slave's datagram as it comes back, up to its working counter.
 const RETURNED: &[u8] = &[
     255, 255, 255, 255, 255, 255, 2, 0, 0, 0, 0, 4, 0x88, 0xa4, 15, 0x10, 12, 4, 0, 0, 0, 1, 3, 0,
     0, 0, 0x02, 0x34, 0x0a, 3, 0,
@@ -102,7 +102,7 @@ const ROWS: &[Row] = &[
     },
 ];
 
-/// Whether one frame of 60 bytes came back that begins with these and ends with zeros.
+/// True if one frame of 60 bytes came back, which begins with these bytes and ends with zeros.
 fn is_frame(frames: &[Vec<u8>], wanted: &[u8]) -> bool {
     match frames {
         [frame] => {
@@ -125,7 +125,7 @@ fn plan_of(alloc: Global, text: &str) -> Result<Plan, Fail> {
     Ok(Plan::new(alloc, project)?)
 }
 
-/// Whether a row's exchange is as it is to be.
+/// True if a row's exchange brings its frame and leaves its bytes.
 fn is_right(alloc: Global, row: &Row) -> Result<bool, Fail> {
     let plan = plan_of(alloc, row.project)?;
     let mut segment = segment_of(alloc, &plan, row.before)?;
@@ -133,7 +133,7 @@ fn is_right(alloc: Global, row: &Row) -> Result<bool, Fail> {
     Ok(is_frame(&frames, row.frame) && are_placed(&segment, row.after))
 }
 
-/// The number of the first row that isn't; none where all are.
+/// The number of the first row with another result. None if there is none.
 fn first_wrong_row(alloc: Global) -> Result<Option<usize>, Fail> {
     let mut number = 0_usize;
     for row in ROWS {
@@ -183,7 +183,7 @@ fn a_line_is_programmed(rt: HostRuntime) -> Result<(), Fail> {
     Ok(())
 }
 
-/// How many frames come back of a task without datagrams, and of one that no line has, and whether the line is programmed.
+/// The number of frames that an exchange of a task brings, and true if the line is programmed then.
 fn answers_of_nothing(alloc: Global, task: u8) -> Result<(usize, bool), Fail> {
     let plan = plan_of(alloc, ONE_SLAVE)?;
     let mut segment = segment_of(alloc, &plan, &[])?;
@@ -200,14 +200,14 @@ fn a_task_without_datagrams_answers_nothing(rt: HostRuntime) -> Result<(), Fail>
     Ok(())
 }
 
-/// What the first row's machine holds before: bytes in its registers too.
+/// Bytes of the one slave's memory before the exchange, also in its registers.
 const BEFORE: &[Piece] = &[
     (0, 0x0600, &[1, 2, 3]),
     (0, 0x1100, &[0xfc]),
     (0, 0x1180, &[0x34, 0x0a]),
 ];
 
-/// Whether the machine is as it was: it differs from a new one in nothing but its station address and these bytes.
+/// True if the machines of two segments of one slave have the same memory.
 fn is_untouched(segment: &Segment, unused: &Segment) -> bool {
     match (segment.machines(), unused.machines()) {
         ([machine], [other]) => machine.memory() == other.memory(),
@@ -215,7 +215,8 @@ fn is_untouched(segment: &Segment, unused: &Segment) -> bool {
     }
 }
 
-/// The sweep refuses each growth of this test in turn: the machines are then as they were.
+/// An exchange whose allocation fails leaves the machines as they were. `ci/sweep.sh` makes each allocation of this test fail
+/// in turn.
 #[test]
 fn machines_stay_where_an_exchange_is_refused(rt: HostRuntime) -> Result<(), Fail> {
     let alloc = rt.alloc();

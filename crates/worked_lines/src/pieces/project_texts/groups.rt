@@ -25,7 +25,7 @@ const TOOL_LISTING: &str = "group 200
       pdo 0x5 entries 3:8
 ";
 
-/// Texts that aren't one group's, with the numbers of their faults.
+/// Texts that are not one group's, with the numbers of their faults.
 const REFUSED: [(&str, u8); 9] = [
     ("", 12),
     ("group = []", 12),
@@ -73,7 +73,7 @@ fn a_text_of_one_group(rt: HostRuntime) -> Result<(), Fail> {
     Ok(())
 }
 
-/// A text that isn't one group's is refused with its lowest fault.
+/// A text that is not one group's is refused with its lowest fault.
 #[test]
 fn texts_of_no_single_group(rt: HostRuntime) {
     for (text, number) in &REFUSED {
@@ -81,8 +81,7 @@ fn texts_of_no_single_group(rt: HostRuntime) {
     }
 }
 
-/// With ample memory the group, and where a growth is refused no other fault: this test also runs with
-/// each growth refused in turn.
+/// The text of a group is read, or fails with `Memory` and with no other fault.
 #[test]
 fn group_or_memory(rt: HostRuntime) {
     match read_group(rt.alloc(), TOOL.as_bytes()) {

@@ -5,7 +5,7 @@ use hc_records::faults::ProjectFault;
 use std::alloc::{AllocError, Global};
 use std::test::Fail;
 
-/// A piece of text so many times.
+/// A piece of text, repeated `times` times.
 fn repeated(alloc: Global, piece: &str, times: u32) -> Result<String, AllocError> {
     let mut text = String::new(alloc);
     for _ in 0..times {
@@ -85,7 +85,7 @@ fn groups(alloc: Global, count: u32) -> Result<String, AllocError> {
     Ok(text)
 }
 
-/// Adds a PDO of so many gaps of 64 bits, and one gap more of the last bits.
+/// Adds a PDO of `gaps` gaps of 64 bits, and one gap more of the last bits.
 fn add_pdo(list: &mut String, index: u32, gaps: u32, last: u32) -> Result<(), AllocError> {
     write!(list, "{{ index = {index}, entries = [")?;
     for _ in 0..gaps {
@@ -94,7 +94,7 @@ fn add_pdo(list: &mut String, index: u32, gaps: u32, last: u32) -> Result<(), Al
     write!(list, "[0, {last}]] }}, ")
 }
 
-/// An area at an address, whose three assigned PDOs have 11,840 bits and so many more.
+/// An area at an address, whose three assigned PDOs have 11,840 bits and `more` bits.
 fn wide_area(alloc: Global, phys: u32, more: u32) -> Result<String, AllocError> {
     let mut offered = String::new(alloc);
     add_pdo(&mut offered, 1, 63, 64)?;
@@ -115,7 +115,7 @@ enum List {
     Groups,
 }
 
-/// A text with so many items in a list.
+/// A text with `count` items in a list.
 fn text_of(alloc: Global, list: List, count: u32) -> Result<String, AllocError> {
     match list {
         List::Entries => entries(alloc, count),
@@ -184,7 +184,7 @@ fn widest_area(rt: HostRuntime) -> Result<(), Fail> {
     Ok(())
 }
 
-/// Bytes that aren't UTF-8, or hold a control character.
+/// Bytes that are not UTF-8, or hold a control character.
 const NO_TEXTS: [&[u8]; 3] = [b"\xff", b"slave = []\n# \xc3", b"\x00"];
 
 /// Bytes that are no UTF-8, or hold a control character, are refused with `NotToml`.

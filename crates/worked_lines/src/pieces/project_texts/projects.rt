@@ -28,8 +28,8 @@ index = 0x1a00
 entries = [[2, 12]]
 "#;
 
-/// One slave with an output and an input area, as inline arrays of inline tables: its keys in another order, with keys that are
-/// ignored at every level, also a key of another level and one of another case.
+/// One slave with an output and an input area, as inline arrays of inline tables. Its keys are in another order, with keys that
+/// are ignored at every level, also a key of another level and one of another case.
 const INLINE: &str = r#"
 title = "a small line"
 groups = 5
@@ -322,12 +322,12 @@ group 200
       pdo 0x1a00 entries 311:16 312:16
 ";
 
-/// Whether a text is read as a listing.
+/// True if a text has this listing.
 fn is_read(alloc: Global, text: &str, wanted: &str) -> Result<bool, ProjectFault> {
     Ok(listing(alloc, text)?.as_str() == wanted)
 }
 
-/// The first text where anything is read.
+/// The first text with another listing than that of an empty project. None if there is none.
 fn filled<'a>(alloc: Global, texts: &[&'a str]) -> Result<Option<&'a str>, ProjectFault> {
     for text in texts {
         if !is_read(alloc, *text, "group 0\n")? {
@@ -347,8 +347,8 @@ fn texts_with_every_field(rt: HostRuntime) -> Result<(), Fail> {
     Ok(())
 }
 
-/// With ample memory the whole line, and where a growth is refused no other fault: this test also runs
-/// with each growth refused in turn.
+/// The text of a line is read, or fails with `Memory` and with no other fault. `ci/sweep.sh` makes each allocation of this test
+/// fail in turn.
 #[test]
 fn project_or_memory(rt: HostRuntime) {
     match read_project(rt.alloc(), TOOL_CHANGER.as_bytes()) {

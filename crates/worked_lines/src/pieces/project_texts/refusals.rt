@@ -3,7 +3,7 @@ use super::fault_number;
 use std::alloc::Global;
 use std::test::Fail;
 
-/// A line where every key of the format is; a case turns one piece of it or two.
+/// A line with every key of the format. A case changes one piece of it, or two.
 const LINE: &str = r#"
 [[slave]]
 station = 1001
@@ -37,8 +37,8 @@ alias = 200
 slave = [{ station = 2002 }]
 "#;
 
-/// Cases, a line each: a piece of the text, what is in its place, perhaps a second such change, and
-/// the number of the fault, 0 for none.
+/// Cases, one a line: a piece of the text, its replacement, perhaps a second such change, and the number of the fault, 0 for
+/// none.
 const RANGES: &str = r#"station = 1001 -> station = 1001 => 0
 alias = 100 -> alias = -1 => 3
 alias = 100 -> alias = 0 => 3
@@ -152,7 +152,7 @@ entries = [[3, 12]] -> entries = [[3, 12.0]] => 2
 entries = [[3, 12]] -> entries = [["3", 12]] => 2
 entries = [[3, 12]] -> entries = [{ variable = 3, bits = 12 }] => 2"#;
 
-/// Names that are twice, areas that overlap, PDOs that aren't offered.
+/// Names that are twice, areas that overlap, PDOs that are not offered.
 const CONDITIONS: &str = r#"alias = 200 -> alias = 100 => 4
 station = 2001 -> station = 1001 => 5
 station = 2001 -> station = 2002 => 5
@@ -174,7 +174,7 @@ assigned = [0x1600] -> assigned = [0x1600, 0x1602] => 9
 assigned = [] -> assigned = [0x1600] => 9
 index = 0x1601 -> index = 0x1600 => 9"#;
 
-/// Two faults at once: the lower one is answered.
+/// Two faults at once: the lower one is reported.
 const PAIRS: &str = r#"station = 1001 -> station = = & alias = 100 -> alias = "x" => 1
 sm = 2 -> sm = 16 & alias = 100 -> alias = "x" => 2
 sm = 2 -> sm = 256 & dir = "in" -> dir = 1 => 2
@@ -236,13 +236,13 @@ fn line_of(alloc: Global, changes: &str) -> Result<String, Fail> {
     Ok(text)
 }
 
-/// What is before the number of a case, and that number.
+/// The text before the number of a case, and that number.
 fn parts(case: &str) -> Result<(&str, u8), Fail> {
     let (front, number) = case.rsplit_once(" => ").ok_or("no number")?;
     Ok((front, number.parse::<u8>()?))
 }
 
-/// The first case whose changed line has another fault.
+/// The first case whose changed line has another fault. None if there is none.
 fn misjudged<'a>(alloc: Global, cases: &'a str) -> Result<Option<&'a str>, Fail> {
     for case in cases.lines() {
         let (changes, wanted) = parts(case)?;
@@ -264,7 +264,7 @@ fn one_change_or_two(rt: HostRuntime) -> Result<(), Fail> {
     Ok(())
 }
 
-/// The first case whose text has another fault.
+/// The first case whose text has another fault. None if there is none.
 fn misread<'a>(alloc: Global, cases: &'a str) -> Result<Option<&'a str>, Fail> {
     for case in cases.lines() {
         let (text, wanted) = parts(case)?;
