@@ -1,4 +1,4 @@
--- Which owed blocks a frame carries, and what is kept once they are sent and once they are answered.
+-- The owed blocks that a frame carries, and the knowledge of registers once they are sent and once they are answered.
 use Rattle.std.proofs.Common.{◌≡◌, ℕ, zero, suc, ◌+◌, ◌<◌, ◌≤◌, Bool, true, false, cond, not, List, [], ◌∷◌, ◌++◌, filter, length, map, take, refl, sym, ap, ◌∙◌, subst, arith, append_assoc, Option, Some, None, rules}
 use Rattle.std.specs.Prelude.{All, Contains, option_map, option_to_list, slice_get}
 use Rattle.std.specs.Option.{option_map_or}

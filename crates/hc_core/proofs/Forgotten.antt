@@ -1,4 +1,4 @@
--- What is kept stays right after a slave that was forgotten, and when that is refused.
+-- The parts of a core stay right after a slave was forgotten, and the faults of forgetting are those of the event.
 use Rattle.std.proofs.Common.{◌≡◌, ℕ, ◌+◌, Bool, true, false, cond, not, ◌||◌, List, [], ◌∷◌, length, refl, sym, ap, ◌∙◌, Option, Some, None}
 use Rattle.std.specs.Prelude.{find, is_none, is_some, position, IfErr, IsErrAnd, Result, Ok, Err}
 use Rattle.std.specs.List.{list_any, position_from}

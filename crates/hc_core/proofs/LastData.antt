@@ -1,4 +1,4 @@
--- What a task reads of a datagram is its last good answer.
+-- The data that a task reads of a datagram are those of its last good answer.
 use Rattle.std.proofs.Common.{◌≡◌, ◌⊎◌, inl, inr, ℕ, zero, suc, ◌+◌, ◌<◌, ◌==◌, Bool, true, false, cond, ◌&&◌, ◌||◌, List, [], ◌∷◌, ◌++◌, length, map, slice_get, refl, sym, ap, ◌∙◌, subst, arith, Option, Some, None, rules}
 use Rattle.std.specs.Prelude.{All, fold}
 use Rattle.std.specs.Option.{option_map_or}

@@ -1,4 +1,4 @@
--- What good answers leave of the serial of a datagram's data, seen by what they leave of the data.
+-- The serial of a datagram's data after good answers, by the data that they leave.
 use Rattle.std.proofs.Common.{◌≡◌, ℕ, Bool, true, false, cond, ◌||◌, List, [], ◌∷◌, refl, sym, ap, ◌∙◌, Option, Some, None}
 use Rattle.std.specs.Prelude.{fold, is_some}
 use Rattle.std.specs.List.{list_any}

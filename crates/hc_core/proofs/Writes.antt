@@ -1,4 +1,4 @@
--- When the first owed blocks are sent, and what is answered then.
+-- The sending of the first owed blocks: its faults, its answer, and its entry in the record.
 use Rattle.std.proofs.Common.{◌≡◌, ℕ, suc, ◌+◌, ◌<◌, ◌≤◌, ◌==◌, nat_lt, true, false, cond, not, List, [], ◌∷◌, ◌++◌, drop, length, take, refl, sym, ap, ◌∙◌, subst, arith, inl, inr, Option, Some, None, rules}
 use Rattle.std.specs.Prelude.{All, IfOk, OnOk, Result, Ok, Err}
 use Rattle.std.proofs.lemmas.Bool.Decides.{nat_tests}

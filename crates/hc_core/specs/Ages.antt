@@ -1,4 +1,5 @@
--- How old the data are that tasks read, as a core keeps it: the serial of the sending and the epoch of the answer that brought them, for each datagram that a line can have, task by task.
+-- The ages of the data that tasks read, as a core stores them: the serial of the sending and the epoch of the answer, for each
+-- datagram that a line can have, task by task.
 use Rattle.std.specs.Prelude.{◌≡◌, ℕ, ◌*◌, ◌<◌, ◌==◌, ◌&&◌, if◌then◌else◌, List, fold, length, slice_index_or, Option, Some, None, option_map}
 use Rattle.hc_records.specs.declared.limits.TheConstants.{MOST_DATAGRAMS, TASKS}
 use Rattle.hc_records.specs.Slots.{slot_number}

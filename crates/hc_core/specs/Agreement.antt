@@ -1,4 +1,4 @@
--- What a core keeps, by the history of what it accepted.
+-- The parts of a core, and their agreement with the history of accepted events.
 use Rattle.std.specs.Prelude.{◌≡◌, ℕ, ◌≤◌, List, None}
 use Rattle.hc_records.specs.Line.{State, groups_of}
 use Rattle.hc_records.specs.Edits.{over_limit_task}
@@ -73,6 +73,6 @@ core_parts core = record {
   changes = core.changes.items;
 }
 
--- what holds of every core: its parts agree with its record, and with that record as it was when the changes were last taken
+-- the invariant of a core: its parts agree with its record, and with that record as it was when the changes were last taken
 abbrev pub Agrees : Inside → Type 0
 Agrees core = Agree (core_parts core) (history_read core.history) (history_read core.taken.value)

@@ -1,4 +1,4 @@
--- What is refused whatever memory does (this project's profile).
+-- The faults that are judged before memory is allocated (this project's profile).
 use Rattle.std.specs.Prelude.{◌≡◌, ℕ, ◌∷◌, Bool, IfSome, List, Option, length, map, option_map}
 use Rattle.std.specs.List.{list_any}
 use Rattle.hc_records.specs.Lists.{lowest}

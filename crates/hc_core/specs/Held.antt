@@ -1,4 +1,5 @@
--- What registers may hold once blocks are sent and once they are answered, and what is kept of the areas then. Contracts inside the crate cite it.
+-- The bytes that registers may hold, and the state of the areas, after blocks are sent and after they are answered. Contracts
+-- inside the crate cite it.
 use Rattle.std.specs.Prelude.{◌≡◌, ℕ, Bool, true, if◌then◌else◌, All, List, [], ◌∷◌, Option, None, Some}
 use Rattle.hc_records.specs.Line.{State, groups_of}
 use Rattle.hc_records.specs.Project.{lowest_fault}

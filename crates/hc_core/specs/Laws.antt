@@ -1,4 +1,4 @@
--- What holds of the pieces and the parts of a sending. Each law is the contract of a function of `laws`.
+-- Laws of the pieces and the parts of a sending. Each law is the contract of a function of `laws`.
 use Rattle.std.specs.Prelude.{◌≡◌, ◌≤◌, ◌*◌, ℕ, All, List, length, map, None}
 use Rattle.std.specs.List.{flat_map}
 use Rattle.hc_records.specs.declared.limits.TheConstants.{MOST_DATAGRAMS, TASKS}

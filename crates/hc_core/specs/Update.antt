@@ -1,4 +1,4 @@
--- What the changes of a core say that nobody took yet.
+-- The changes of a core that were not taken yet.
 use Rattle.std.specs.Prelude.{◌≡◌, ℕ, ◌-◌, List, ◌++◌, length, map}
 use Rattle.hc_events.specs.declared.change.Change.{Change}
 use Rattle.hc_events.specs.Changes.{AreLegalFrom, updates_of, update_in}

@@ -1,4 +1,4 @@
-//! The tasks that an edit changes: which they are, and what an edit makes of their data and of their epochs.
+//! The tasks that an edit changes, and the edit's effect on their data and their epochs.
 ghost use Rattle.std.specs.Prelude.{◌≡◌, ◌<◌, ℕ, if◌then◌else◌};
 ghost use Rattle.hc_records.specs.declared.limits.TheConstants.{TASKS};
 ghost use Rattle.hc_records.specs.Line.{line};
@@ -55,7 +55,7 @@ fn places_changed(places: &Places, swap: &Swap) -> TaskSet
     set
 }
 
-/// Whether an edit gives an area other PDOs.
+/// True if an edit is a remap, which gives an area other PDOs.
 fn remaps(edit: &Edit) -> bool
     ensures { result ≡ remaps edit.now }
 {

@@ -1,4 +1,4 @@
-//! What a master says of the FMMUs of a slave: that they are zero, or off the wire.
+//! Two reports of a master on a slave: its FMMUs are zero (`cleared`), or it is off the wire (`unplugged`).
 ghost use Rattle.std.specs.Prelude.{◌≡◌, ◌∷◌, IfErr, IfOk, None, OnErr, OnOk, Some, false, slice_get, true};
 ghost use Rattle.hc_records.specs.Edits.{is_declared_station};
 ghost use Rattle.hc_records.specs.Lists.{lowest};
@@ -16,7 +16,7 @@ use crate::keeping::Core;
 use hc_events::faults::CoreFault;
 use hc_records::faults::EditFault;
 
-/// Whether this is the fault of a declared slave outside the line.
+/// True if a fault is `Absent`: a declared slave outside the line.
 fn is_absent(fault: &EditFault) -> bool
     ensures { result ≡ is_absent fault.now }
 {
@@ -24,7 +24,8 @@ fn is_absent(fault: &EditFault) -> bool
 }
 
 impl Core {
-    /// Whether the declared slave with this station address is in the line. `UnknownStation` if no declared slave has the address.
+    /// True if the declared slave with this station address is in the line. Fails with `UnknownStation` if no declared slave
+    /// has the address.
     fn is_in_line(&self, station: u16) -> Result<bool, CoreFault>
         ensures declared { OnOk result (is_declared_station (state_of self.now.history) station ≡ true) }
         ensures line { IfOk result (λ inside. inside ≡ is_in_line self.now.history station) }
@@ -48,7 +49,7 @@ impl Core {
         index as u16
     }
 
-    /// Keeps that a slave's FMMUs are zero.
+    /// Records that a slave's FMMUs are zero.
     fn clear(&mut self, station: u16)
         requires { IsClearing self.old.history station }
         ensures { self.new ≡ record self.old { history = Cleared station ∷ self.old.history } }
@@ -58,7 +59,7 @@ impl Core {
         self.history = self.history.cleared(station);
     }
 
-    /// Keeps that a slave outside the line is off the wire.
+    /// Records that a slave outside the line is off the wire.
     fn unplug(&mut self, station: u16)
         requires { IsUnplugging self.old.history station }
         ensures { self.new ≡ record self.old { history = Unplugged station ∷ self.old.history } }

@@ -1,4 +1,4 @@
-//! Ready tasks: which they are, which slaves hold the others up, and their frames.
+//! Ready tasks: the check of each task, and the proposal and the sending of their frames.
 ghost use Rattle.std.specs.Prelude.{◌≡◌, ◌≢◌, ◌+◌, ◌<◌, ◌≤◌, ◌*◌, [], All, ◌++◌, Err, IfErr, IfOk, IfSome, None, OnErr, OnOk, Option, Some, drop, length, sum_by, vec_capacity};
 ghost use Rattle.std.specs.List.{flat_map, list_any};
 ghost use Rattle.hc_records.specs.declared.limits.TheConstants.{MOST_DATAGRAMS, TASKS};
@@ -25,7 +25,7 @@ use hc_sendings::proposing::propose_into;
 use std::alloc::Global;
 use std::mem;
 
-/// Whether one of these numbers is no task's.
+/// True if one of these numbers is over 7, so that no task has it.
 fn names_no_task(tasks: &[u8]) -> bool
     ensures { result ≡ list_any is_no_task tasks.now }
 {
@@ -33,7 +33,8 @@ fn names_no_task(tasks: &[u8]) -> bool
 }
 
 impl Core {
-    /// How many owed register blocks of the line concern a task, 0 to 7, and how many registers of slaves outside the line.
+    /// Returns two numbers for a task, 0 to 7: the owed register blocks of the line that concern it, and the registers of
+    /// slaves outside the line that hold it up.
     fn waiting_for(&self, task: u8) -> (u32, u32)
         requires { task < TASKS }
         ensures blocks { result.0 ≡ length (waited_for self.now.history task) }
@@ -42,7 +43,7 @@ impl Core {
         (self.readiness.waiting(task), self.readiness.outside(task))
     }
 
-    /// Whether a number is no task's, or the task waits.
+    /// True if a number is over 7, or if the task with this number waits.
     fn is_unready(&self, task: u8) -> bool
         ensures { result ≡ is_unready self.now.history task }
     {
@@ -195,7 +196,7 @@ impl Core {
         Ok(size)
     }
 
-    /// Sends ready tasks: the texts of the frames that are proposed into a list, which are then committed.
+    /// Sends ready tasks: proposes their frames into a list, commits them, and returns their texts.
     fn send_ready_by(
         &mut self,
         alloc: Global,

@@ -1,4 +1,4 @@
-//! What a core says of a task over edits that do not change it.
+//! Reads that outlast edits: the epoch and the steady data of a task, as long as no edit changes the task.
 ghost use Rattle.std.specs.Prelude.{◌≡◌, ◌<◌, ◌≤◌, ◌⊎◌, IfOk, IfSome, None, Ok};
 ghost use Rattle.std.specs.Option.{option_copied};
 ghost use Rattle.hc_records.specs.declared.limits.TheConstants.{MOST_DATAGRAMS, TASKS};

@@ -1,4 +1,4 @@
-//! Which tasks are ready, and which slaves hold the others up.
+//! The ready tasks, and the slaves that hold up the others.
 ghost use Rattle.std.specs.Prelude.{◌≡◌, ◌<◌};
 ghost use Rattle.hc_records.specs.declared.limits.TheConstants.{TASKS};
 ghost use Rattle.hc_events.specs.Ready.{held_by, ready_mask};
