@@ -37,7 +37,7 @@ pub record CoreParts : Type 0 where
   pub readiness : List JudgedArea
   pub changes : List Change
 
--- each part says what the record says
+-- each part agrees with the record
 pub record Agree (unchanged : CoreParts) (history taken : History) : Type 0 where
   pub accepted : AreAccepted history
   pub state : unchanged.plan ≡ state_of history
@@ -54,11 +54,11 @@ pub record Agree (unchanged : CoreParts) (history taken : History) : Type 0 wher
   pub ready : unchanged.readiness ≡ areas_of history
   pub shows : ShowUpdates taken history unchanged.changes
 
--- what contracts see of a core
+-- the state of a core that contracts see
 abbrev pub state_in : Inside → CoreState
 state_in core = record { history = history_read core.history; taken = history_read core.taken.value }
 
--- what a core keeps beside the two records: its parts, and the changes that weren't taken yet
+-- the parts of a core beside the two records, the changes that were not taken among them
 abbrev pub core_parts : Inside → CoreParts
 core_parts core = record {
   plan = core.plan;

@@ -1,4 +1,4 @@
--- What will be kept of the areas once an edit is carried out and each slave that came with it is cleared.
+-- The state of the areas once an edit is carried out and each slave that came with it is cleared.
 use Rattle.std.proofs.Common.{◌≡◌, ℕ, ◌+◌, ◌-◌, ◌*◌, ◌/◌, ◌<◌, ◌≤◌, ◌==◌, ◌&&◌, Bool, true, false, cond, List, [], ◌∷◌, ◌++◌, length, replicate, refl, sym, ap, subst, ◌∙◌, arith}
 use Rattle.std.specs.Prelude.{All, None, Some, Option, is_some, not, option_map, slice_get, unwrap_or}
 use Rattle.std.specs.Option.{option_map_or}

@@ -1,4 +1,4 @@
--- What is kept stays right where a slave is forgotten.
+-- The register state stays right if a slave is forgotten.
 use Rattle.std.proofs.Common.{◌≡◌, ℕ, zero, suc, ◌+◌, ◌<◌, ◌≤◌, ◌==◌, ◌||◌, Bool, true, false, cond, List, length, map, refl, sym, ap, subst, ◌∙◌, arith}
 use Rattle.std.specs.Prelude.{◌≢◌, None, Some, Option, is_some, not, option_map, slice_get, unwrap_or}
 use Rattle.std.specs.Option.{option_map_or}
@@ -194,7 +194,7 @@ forgotten-right station n register_state known state right size =
     ap (forgotten_below station n) right
     ∙ forgotten station known state n (size ∙ ap (λ (b : RegisterState). length b.known) right ∙ length-map (places state) (known_in known))
 
--- where a place has a block
+-- a place that has a block
 
 pub block-owed : (register_state : RegisterState) (n : ℕ) → slice_get register_state.owed n ≡ Some true → true ≡ has_block register_state n
 block-owed register_state n owed = sym (ap (λ (found : Option Bool). unwrap_or found false || is_some (unwrap_or (slice_get register_state.known n) None)) owed)

@@ -1,4 +1,4 @@
--- What is kept first: lists that grow with the declared slaves, and what they are.
+-- The register state at the opening: its lists grow with the declared slaves, and they are right.
 use Rattle.std.proofs.Common.{◌≡◌, Bool, ℕ, zero, suc, ◌+◌, ◌*◌, ◌/◌, true, false, cond, List, [], ◌∷◌, length, map, refl, ap, arith, length-append, rules}
 use Rattle.std.specs.Prelude.{None, Option, Some, nat_lt, option_map, replicate, slice_get}
 use Rattle.std.specs.List.{flat_map, range_with_len}

@@ -1,4 +1,4 @@
--- What is kept of the areas stays right where a slave is forgotten, cleared or unplugged.
+-- The state of the areas stays right if a slave is forgotten, cleared or unplugged.
 use Rattle.std.proofs.Common.{◌≡◌, ℕ, ◌+◌, ◌*◌, ◌/◌, ◌<◌, ◌≤◌, ◌==◌, ◌&&◌, ◌||◌, Bool, true, false, cond, length, map, refl, sym, ap, ap₂, ◌⊎◌, inl, inr, ◌∙◌, arith}
 use Rattle.std.specs.Prelude.{None, Some, Option, is_some, option_map, slice_get}
 use Rattle.std.specs.List.{range_with_len}

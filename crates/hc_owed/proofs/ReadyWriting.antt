@@ -1,4 +1,4 @@
--- What is kept of the areas stays right after the sending of a write, and after a good answer to it.
+-- The state of the areas stays right after the sending of a write, and after a good answer to it.
 use Rattle.std.proofs.Common.{◌≡◌, ℕ, ◌+◌, ◌*◌, ◌/◌, ◌%◌, ◌<◌, ◌==◌, ◌&&◌, Bool, true, false, cond, List, length, refl, sym, ap, ap₂, ◌∙◌, arith}
 use Rattle.std.specs.Prelude.{◌≢◌, None, Some, Option, not, slice_get}
 use Rattle.std.proofs.lemmas.Bool.{and_parts, eqb-true}

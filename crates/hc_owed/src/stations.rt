@@ -1,4 +1,4 @@
-//! Which declared slave has a station address.
+//! The station addresses of the declared slaves, and their indexes by rank.
 ghost use Rattle.std.specs.Prelude.{◌≡◌, ◌==◌, ◌<◌, IfSome, Some, position, slice_get};
 
 use crate::owed::Owed;
@@ -13,8 +13,8 @@ impl Owed {
         self.stations.iter().position(|other| *other == station)
     }
 
-    /// The station address of the declared slave with an index by rank, from 0, or `None` if fewer are declared. It takes no
-    /// time.
+    /// The station address of the declared slave with an index by rank, from 0, or `None` if fewer are declared. It takes
+    /// constant time.
     pub fn station(&self, index: usize) -> Option<u16>
         ensures { result ≡ slice_get self.now.stations index }
     {

@@ -26,7 +26,7 @@ impl TaskSet {
         TaskSet { bits: 0xff }
     }
 
-    /// One task alone; no task if there is none.
+    /// Returns one task alone, or no task for `None`.
     pub fn of(own: Option<u8>) -> TaskSet
         requires { IfSome own (λ task. task < TASKS) }
         ensures { result ≡ only_task own }
@@ -58,7 +58,7 @@ impl TaskSet {
         }
     }
 
-    /// Whether a task, 0 to 7, is in the set.
+    /// True if a task, 0 to 7, is in the set.
     pub fn has(self, task: u8) -> bool
         requires { task < TASKS }
         ensures { result ≡ has_task task self }
@@ -66,7 +66,7 @@ impl TaskSet {
         self.bits >> task & 1 == 1
     }
 
-    /// Whether no task is in the set.
+    /// True if no task is in the set.
     pub fn is_empty(self) -> bool
         ensures { result ≡ not (some_task self) }
     {
