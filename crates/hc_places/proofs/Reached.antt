@@ -1,4 +1,4 @@
--- How many rows have lower numbers than a variable: counted among some of the rows, and the row after them.
+-- The number of rows with a lower number than a variable's, counted among some of the rows, and the row after them.
 use Rattle.std.proofs.Common.{◌≡◌, ◌∙◌, ap, ℕ, zero, suc, ◌+◌, ◌<◌, ◌≤◌, Bool, true, false, cond, List, [], ◌∷◌, drop, get_or, length, map, set, take, refl, sym, subst, arith}
 use Rattle.std.specs.Prelude.{Option, Some, None, ◌-◌, nat_lt, slice_get, unwrap_or, ◌==◌, ◌≢◌}
 use Rattle.std.specs.List.{AllWithin}

@@ -1,4 +1,4 @@
--- Where the variables of a table are once some of them are changed, and that their places give a table.
+-- The places of a table's variables after some of them are changed. The places give the table.
 use Rattle.std.proofs.Common.{◌≡◌, ◌∙◌, ap, ℕ, ◌<◌, Bool, true, false, cond, List, [], ◌∷◌, ◌++◌, refl, sym, arith}
 use Rattle.std.specs.Prelude.{Option, Some, None, find, option_map, unwrap_or, ◌==◌}
 use Rattle.std.proofs.lemmas.Bool.{cond-true, eqb-true}

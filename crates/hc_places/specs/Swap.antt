@@ -1,4 +1,4 @@
--- What turns the table of one epoch into the next one's.
+-- The change from the table of one epoch to that of the next.
 use Rattle.std.specs.Prelude.{ℕ, ◌==◌, ◌&&◌, not, nat_lt, Bool, true, false, if◌then◌else◌, List, [], ◌∷◌, ◌++◌, All, AllPairs, IsTrue, ◌<◌, ◌≤◌, ◌≡◌, ◌≢◌, ◌↔◌, filter, length, map, set, slice_get, Option, Some, None, is_some, option_map, unwrap_or, find}
 use Rattle.std.specs.Option.{option_map_or}
 use Rattle.std.specs.List.{list_any}
@@ -20,11 +20,11 @@ pub record Change : Type 0 where
   pub tasks : List ChangedTask
   pub rows : List ChangedRow
 
--- they are in the order of their numbers, each once
+-- changed tasks or variables are in the order of their numbers, each once
 abbrev pub ChangesAscend : {X : Type 0} → List (ℕ × X) → Type 0
 ChangesAscend changed = AllPairs (λ a b. a.0 < b.0) changed
 
--- a swap's tasks and its variables do
+-- the tasks of a change are in order, and so are its variables
 pub record IsInOrder (change : Change) : Type 0 where
   pub tasks : ChangesAscend change.tasks
   pub rows : ChangesAscend change.rows
@@ -54,7 +54,7 @@ merged (changed ∷ others) rows = with_changed changed (merged others rows)
 abbrev pub keeps_row : List VariableRow → ChangedRow → Bool
 keeps_row rows changed = is_some (find (λ row. row.0 == changed.0) rows) && is_some changed.1
 
--- so each changed variable does: none appears or goes
+-- each changed variable keeps its row: none appears or goes
 abbrev pub KeepRows : List VariableRow → List ChangedRow → Type 0
 KeepRows rows changed = All (λ change. IsTrue (keeps_row rows change)) changed
 
@@ -72,7 +72,7 @@ abbrev pub same_place : VariablePlace → VariablePlace → Bool
 same_place a b =
     (a.task == b.task) && (a.datagram == b.datagram) && (a.bit == b.bit) && (a.bits == b.bits) && same_dir a.dir b.dir
 
--- and so are two that may be lacking
+-- two places, each of which may be missing, are the same
 abbrev pub same_found : Option VariablePlace → Option VariablePlace → Bool
 same_found None None = true
 same_found None (Some b) = false
@@ -96,11 +96,11 @@ abbrev pub changed_variables : Table → Table → List ℕ
 changed_variables old new =
     filter (λ variable. not (same_found (place_in old variable) (place_in new variable))) (variables_of_both old new)
 
--- the new place of a variable, or that it has none, where that isn't its old one
+-- the new place of a variable, or that it has none, if that is not its old place
 abbrev pub new_place : Option VariablePlace → Option VariablePlace → Option (Option VariablePlace)
 new_place old new = if same_found old new then None else Some new
 
--- what a change says of a variable: its new place or none, and nothing where it isn't among the change's rows
+-- the new place of a variable by a change, or that it has none; nothing if it is not among the change's rows
 abbrev pub said_of : Change → ℕ → Option (Option VariablePlace)
 said_of change variable = option_map (λ changed. changed.1) (find (λ changed. changed.0 == variable) change.rows)
 
@@ -108,11 +108,11 @@ said_of change variable = option_map (λ changed. changed.1) (find (λ changed. 
 abbrev pub table_among : List ChangedTask → ℕ → Option TaskTable
 table_among changed task = option_map (λ found. found.1) (find (λ found. found.0 == task) changed)
 
--- what a change says of a task: its new table, and nothing where it isn't among the change's tasks
+-- the new table of a task by a change; nothing if it is not among the change's tasks
 abbrev pub table_said_of : Change → ℕ → Option TaskTable
 table_said_of change task = table_among change.tasks task
 
--- a task that isn't mentioned is as it was; one with a new table has that table, and hadn't
+-- a task without a new table is as it was; one with a new table has that table, and had another one
 abbrev pub IsNewTask : Option TaskTable → Option TaskTable → Option TaskTable → Type 0
 IsNewTask old new None = old ≡ new
 IsNewTask old new (Some said) = (new ≡ Some said) × (old ≢ new)
@@ -121,7 +121,8 @@ IsNewTask old new (Some said) = (new ≡ Some said) × (old ≢ new)
 abbrev pub AreNewTasks : List TaskTable → List TaskTable → List ChangedTask → Type 0
 AreNewTasks old new changed = (task : ℕ) → IsNewTask (slice_get old task) (slice_get new task) (table_among changed task)
 
--- between two tables a change says of each task whose table differs its new table, of each variable whose place differs its new place or none, and nothing of any other
+-- a change states the differences between two tables: the new table of each task whose table differs, the new place or none of
+-- each variable whose place differs, and nothing of any other
 pub record SaysWhatDiffers (old new : Table) (change : Change) : Type 0 where
   pub tasks : AreNewTasks old.tasks new.tasks change.tasks
   pub places : (variable : ℕ) → said_of change variable ≡ new_place (place_in old variable) (place_in new variable)
@@ -130,17 +131,17 @@ pub record SaysWhatDiffers (old new : Table) (change : Change) : Type 0 where
 abbrev pub AreOnce : List ChangedRow → Type 0
 AreOnce rows = (variable : ℕ) → length (filter (λ changed. changed.0 == variable) rows) ≤ 1
 
--- how many variables a swap changes
+-- the number of variables that a swap changes
 abbrev pub changed_places : Swap → ℕ
 changed_places swap = length swap.change.rows
 
--- a swap leads from one table to another, and carries what differs and nothing else
+-- a swap leads from one table to another, and carries the differences and nothing else
 pub record Leads (old new : Table) (swap : Swap) : Type 0 where
   pub leads : swapped swap.change old ≡ new
   pub says : SaysWhatDiffers old new swap.change
   pub count : changed_places swap ≡ length (changed_variables old new)
 
--- so it does from any table to any other between which it says what differs
+-- a swap leads from any table to any other, if the change states the differences between them
 abbrev pub LeadsAsSaid : Change → Swap → Type 0
 LeadsAsSaid said swap = (old new : Table) → IsTable old → IsTable new → SaysWhatDiffers old new said → Leads old new swap
 
@@ -150,7 +151,7 @@ ChangedVariablesDiffer =
     (old new : Table) (variable : ℕ)
     → (list_any (λ changed. changed == variable) (changed_variables old new) ≡ true) ↔ (place_in old variable ≢ place_in new variable)
 
--- and each is there once
+-- each changed variable of two tables is among them once
 abbrev pub ChangedVariablesOccurOnce : Type 0
 ChangedVariablesOccurOnce =
     (old new : Table) → RowsAscend old.variables → RowsAscend new.variables → AllPairs (λ a b. a ≢ b) (changed_variables old new)
@@ -161,11 +162,12 @@ SwapsMoveTheirVariables =
     (change : Change) (table : Table) → RowsAscend table.variables → (variable : ℕ)
     → place_in (swapped change table) variable ≡ unwrap_or (said_of change variable) (place_in table variable)
 
--- its rows ascend again
+-- the rows of the table that a change leads to ascend, if those of the table before do
 abbrev pub SwapsKeepTheOrder : Type 0
 SwapsKeepTheOrder = (change : Change) (table : Table) → RowsAscend table.variables → RowsAscend (swapped change table).variables
 
--- and so a task has the table that the change says, and the one that it had if the change says nothing
+-- in the table that a change leads to, a task has the table that the change says, and the one that it had if the change says
+-- nothing
 abbrev pub SwapsReplaceTheirTasks : Type 0
 SwapsReplaceTheirTasks =
     (change : Change) (table : Table) → ChangesAscend change.tasks → (task : ℕ)

@@ -1,4 +1,4 @@
--- What edits of a plan answer, and the states that they leave.
+-- The answers to edits of a plan, and the states that the edits leave.
 use Rattle.std.specs.Prelude.{◌≡◌, ◌≢◌, ℕ, not, IfSome, Bool, true, false, List, [], ◌∷◌, filter, length, map, Result, Ok, Err}
 use Rattle.hc_records.specs.declared.edit.Edit.{Edit}
 use Rattle.hc_records.specs.declared.faults.EditFault.{EditFault}
@@ -27,11 +27,12 @@ pub record ReportsEdit (old : State) (edit : Edit) (new : State) (report : Repor
   pub says : SaysWhatDiffers (table_of (line old)) (table_of (line new)) report.swap.change
   pub places : changed_places report.swap ≡ length (changed_variables (table_of (line old)) (table_of (line new)))
 
--- what an edit answers: a report, or a fault
+-- the answer to an edit: a report, or a fault
 abbrev pub Answer : Type 0
 Answer = Result Report EditFault
 
--- an accepted edit makes the new state and says of it; a refused one changes nothing and names its fault, or that a growth was refused, which no fault that the edit has by itself waits for
+-- the answer and the state after an edit: an accepted edit makes the new state and reports it; a refused one changes nothing,
+-- and its answer is its fault, or `Memory` if an allocation failed. A fault that the edit has by itself is reported even then
 abbrev pub IsAnswer : State → Edit → Answer → State → Type 0
 IsAnswer old edit (Ok report) new = (edited old edit ≡ Ok new) × ReportsEdit old edit new report
 IsAnswer old edit (Err fault) new =
@@ -42,7 +43,7 @@ abbrev pub AreAnswers : State → List (Edit × Answer) → State → Type 0
 AreAnswers old [] new = new ≡ old
 AreAnswers old (pair ∷ pairs) new = (next : State) × IsAnswer old pair.0 pair.1 next × AreAnswers next pairs new
 
--- a growth was refused
+-- an allocation failed
 abbrev pub wants_memory : Answer → Bool
 wants_memory (Err Memory) = true
 wants_memory _ = false

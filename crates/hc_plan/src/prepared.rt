@@ -1,5 +1,5 @@
-//! An edit of a plan that is worked out before anything changes. Whoever keeps more of a line than its plan asks it
-//! for the moved blocks, takes all memory that it needs, and then lets the plan carry the edit out.
+//! `PreparedEdit`: an edit of a plan that is worked out before anything changes. A caller that stores more of a line than its
+//! plan reads the moved blocks, allocates all memory that it needs, and then lets the plan carry out the edit.
 ghost use Rattle.std.specs.Prelude.{◌≡◌};
 ghost use Rattle.hc_plan.specs.Gone.{gone_of};
 

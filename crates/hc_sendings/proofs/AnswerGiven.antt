@@ -1,4 +1,4 @@
--- What an arrival is answered, by what is awaited with its serial.
+-- The answer to an arrival, by the frame or write that is awaited with its serial.
 use Rattle.std.proofs.Common.{◌≡◌, ℕ, ◌==◌, Bool, true, false, cond, ◌||◌, ◌&&◌, List, [], ◌∷◌, length, map, refl, sym, ap, ◌∙◌, subst, Option, Some, None}
 use Rattle.std.specs.Prelude.{All, find, option_map}
 use Rattle.std.specs.List.{list_any, zip}

@@ -1,4 +1,4 @@
--- What is due by what is kept says of an arrival what the record says of it.
+-- The due datagrams of the stored state give the same answer to an arrival as those of the record.
 use Rattle.std.proofs.Common.{◌≡◌, ◌==◌, Bool, true, false, cond, not, List, [], ◌∷◌, map, refl, sym, ap, ◌∙◌, Option, Some, None}
 use Rattle.std.specs.Prelude.{option_map}
 use Rattle.std.specs.Option.{option_map_or}
