@@ -1,4 +1,4 @@
--- What is met, and added, while a list is gone along.
+-- The elements that are added while a list is gone along.
 use Rattle.std.proofs.Common.{◌≡◌, ℕ, ◌+◌, ◌<◌, ◌≤◌, Bool, cond, List, [], ◌∷◌, ◌++◌, None, append-nil, arith, drop, length, get_or, sym, ap, ◌∙◌, append_assoc, if◌then◌else◌, rules}
 use Rattle.std.specs.Prelude.{filter, map}
 use Rattle.std.specs.List.{flat_map, zip}

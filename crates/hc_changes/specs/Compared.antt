@@ -1,4 +1,4 @@
--- What an area was in the old line, and which of its blocks differ: each is compared with the block that had its number.
+-- The old area of an area, and its blocks that differ: each is compared with the block that had its number.
 use Rattle.std.specs.Prelude.{◌==◌, if◌then◌else◌, List, [], ◌∷◌, find, slice_get, Option, option_and_then, option_map}
 use Rattle.std.specs.Option.{option_map_or}
 use Rattle.hc_records.specs.Line.{Member}

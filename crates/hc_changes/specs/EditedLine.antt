@@ -1,4 +1,4 @@
--- What an edit makes of a line, reported before it is carried out.
+-- The effect of an edit on a line, before it is carried out.
 use Rattle.std.specs.Prelude.{◌≡◌, List, None, map}
 use Rattle.hc_records.specs.declared.records.Declared.{Declared}
 use Rattle.hc_records.specs.Line.{groups_of, line_from}

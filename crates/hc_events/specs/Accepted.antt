@@ -1,4 +1,4 @@
--- What is known of an entry by its being accepted, and of a record by the events that led to it.
+-- The properties of an accepted entry, and of a record that events led to.
 use Rattle.std.specs.Prelude.{◌≡◌, ℕ, ◌<◌, ◌≤◌, ◌⊎◌, true, false, All, Contains, List, [], ◌∷◌, length, map, take, None}
 use Rattle.hc_records.specs.declared.limits.TheConstants.{TASKS}
 use Rattle.hc_records.specs.declared.records.Group.{Group}

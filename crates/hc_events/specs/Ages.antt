@@ -1,4 +1,4 @@
--- How old the data are that a task reads: which sending their answer answered (this project's profile).
+-- The age of the data that a task reads: the sending that their answer answered (this project's profile).
 use Rattle.std.specs.Prelude.{◌≡◌, ℕ, is_some, if◌then◌else◌, [], ◌∷◌, fold, Option, Some, None}
 use Rattle.hc_events.specs.Entries.{History, Opened, Edited, Came}
 use Rattle.hc_events.specs.Images.{NewAnswer, new_answer_by, is_for, slot_of}

@@ -1,4 +1,4 @@
--- What holds of answers: an arrival answers a sending as its first one, and what is awaited is what arrivals can answer.
+-- Laws of answers: an arrival answers a sending as its first one, and the awaited sendings are those that arrivals can answer.
 use Rattle.std.specs.Prelude.{◌≡◌, ◌↔◌, ℕ, ◌<◌, ◌≤◌, ◌==◌, ◌&&◌, not, Bool, true, false, if◌then◌else◌, All, Contains, List, [], ◌∷◌, ◌++◌, length, map, Some, None, Ok}
 use Rattle.std.specs.List.{flat_map, list_all, list_any, zip}
 use Rattle.hc_records.specs.declared.records.Group.{Group}

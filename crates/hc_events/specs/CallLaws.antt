@@ -1,4 +1,4 @@
--- What holds of what the calls of a core ask of the caller's bytes: the sizes are the texts'.
+-- Laws of the bytes that the calls of a core need from the caller: the sizes are those of the texts.
 use Rattle.std.specs.Prelude.{◌≡◌, ℕ, List, [], ◌∷◌, length, Some}
 use Rattle.std.specs.List.{flat_map}
 use Rattle.hc_registers.specs.Blocks.{LineBlock}

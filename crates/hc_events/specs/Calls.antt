@@ -1,4 +1,5 @@
--- What the calls of a core add to the answers: refused memory, a slice of the caller's that is too short, and what the caller keeps to.
+-- The additions of a core's calls to the answers: refused memory, a slice of the caller's that is too short, and the conditions
+-- on the caller.
 use Rattle.std.specs.Prelude.{◌≡◌, ℕ, ◌+◌, ◌<◌, ◌≤◌, ◌⊎◌, ◌&&◌, nat_le, nat_lt, not, Bool, true, false, if◌then◌else◌, List, [], ◌∷◌, ◌++◌, length, sum_by, Option, Some, None, drop}
 use Rattle.std.specs.List.{flat_map}
 use Rattle.hc_records.specs.declared.limits.TheConstants.{TASKS}

@@ -1,4 +1,4 @@
--- What a reader of the input images gets, and what it follows from it without the record.
+-- The changes that a reader of the input images gets, and the state that it derives from them without the record.
 use Rattle.std.specs.Prelude.{◌≡◌, ℕ, ◌+◌, ◌<◌, IsOk, List, [], ◌∷◌, ◌++◌, length, map, Option, None}
 use Rattle.hc_records.specs.declared.edit.Edit.{Edit}
 use Rattle.hc_records.specs.declared.records.Group.{Group}

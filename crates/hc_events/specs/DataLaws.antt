@@ -1,4 +1,4 @@
--- What holds of the data that are sent.
+-- Laws of the data that are sent.
 use Rattle.std.specs.Prelude.{◌≡◌, ℕ, ◌+◌, ◌*◌, ◌<◌, ◌≤◌, List, length, Some, None}
 use Rattle.hc_records.specs.declared.limits.TheConstants.{TASKS}
 use Rattle.hc_records.specs.declared.records.Dir.TheVariants.{Out}

@@ -1,4 +1,5 @@
--- What holds of slaves whose registers are forgotten, and of histories where none is and each register write has a frame of its own.
+-- Laws of slaves whose registers are forgotten, and of histories in which none is forgotten and each register write has a frame
+-- of its own.
 use Rattle.std.specs.Prelude.{◌≡◌, ℕ, ◌==◌, ◌&&◌, ◌||◌, not, Bool, true, false, All, List, ◌∷◌, length, map, None, Some}
 use Rattle.std.specs.List.{list_all, list_any}
 use Rattle.hc_records.specs.declared.records.Group.{Group}

@@ -1,4 +1,4 @@
--- What a sent frame says of each of its datagrams, and the working counter that is expected back.
+-- The heads of a sent frame's datagrams, with the working counter that is expected back.
 use Rattle.std.specs.Prelude.{ℕ, ◌==◌, ◌&&◌, Bool, true, false, List, length, map}
 use Rattle.hc_records.specs.Line.{Member}
 use Rattle.hc_registers.specs.Blocks.{LineBlock}

@@ -1,4 +1,5 @@
--- What the register of a block may hold (this project's profile). The known bytes are what it holds; where nothing is known this says what it may hold all the same.
+-- The bytes that the register of a block may hold (this project's profile). A register with known bytes holds these; if nothing
+-- is known, these definitions still tell the bytes that it may hold.
 use Rattle.std.specs.Prelude.{ℕ, ◌==◌, ◌&&◌, ◌||◌, not, Bool, true, false, if◌then◌else◌, List, [], ◌∷◌, Option}
 use Rattle.std.specs.Option.{option_map_or}
 use Rattle.std.specs.List.{list_any}

@@ -1,4 +1,4 @@
--- What a task reads: for each datagram of the present epoch the data of its last good answer in it, or none.
+-- The data that a task reads: for each datagram of the present epoch the data of its last good answer in it, or none.
 use Rattle.std.specs.Prelude.{ℕ, ◌==◌, ◌<◌, ◌≤◌, ◌&&◌, Bool, if◌then◌else◌, List, [], ◌∷◌, fold, length, map, Option, Some, None}
 use Rattle.std.specs.List.{flat_map, range_with_len}
 use Rattle.hc_records.specs.declared.limits.TheConstants.{MOST_DATAGRAMS, MOST_DATAGRAM_BYTES, TASKS}

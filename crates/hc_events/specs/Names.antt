@@ -1,4 +1,5 @@
--- What a frame that came back names by the addresses in it: FPWR addresses a slave by its station address and a register (ETG.1000.4, 5.4), LRW a task's datagram by its logical address (this project's profile).
+-- The names of a returned frame's datagrams, by the addresses in it: FPWR addresses a slave by its station address and a
+-- register (ETG.1000.4, 5.4), LRW a task's datagram by its logical address (this project's profile).
 use Rattle.std.specs.Prelude.{◌≡◌, ℕ, ◌-◌, ◌/◌, ◌%◌, ◌<◌, All, List, None}
 use Rattle.hc_records.specs.declared.limits.TheConstants.{MOST_DATAGRAMS}
 use Rattle.hc_records.specs.Edits.{over_limit_task}

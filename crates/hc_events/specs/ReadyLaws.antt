@@ -1,4 +1,4 @@
--- What holds of ready tasks, and of what registers may hold. Each law is the contract of a function of `laws`.
+-- Laws of ready tasks, and of the bytes that registers may hold. Each law is the contract of a function of `laws`.
 use Rattle.std.specs.Prelude.{◌≡◌, ◌↔◌, ℕ, ◌<◌, ◌==◌, not, Bool, false, true, if◌then◌else◌, All, Contains, IsNone, List, [], ◌∷◌, ◌++◌, map, None, Some}
 use Rattle.std.specs.List.{list_all, list_any}
 use Rattle.std.specs.Int.{bit_at}

@@ -1,4 +1,4 @@
--- What holds of sendings: which of them has a serial, which frames an accepted event sends, and what these carry.
+-- Laws of sendings: the sending with a serial, the frames that an accepted event sends, and their content.
 use Rattle.std.specs.Prelude.{◌≡◌, ◌≢◌, ◌↔◌, ℕ, ◌+◌, ◌%◌, ◌<◌, Bool, true, false, All, IsNone, IsSome, List, [], ◌∷◌, ◌++◌, length, map, slice_index, Some}
 use Rattle.std.specs.List.{flat_map, list_all, list_any}
 use Rattle.hc_records.specs.Lists.{lowest}

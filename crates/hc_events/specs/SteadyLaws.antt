@@ -1,4 +1,4 @@
--- What holds of tasks over edits that don't change them. Each law is the contract of a function of `laws`.
+-- Laws of tasks over edits that do not change them. Each law is the contract of a function of `laws`.
 use Rattle.std.specs.Prelude.{◌≡◌, ◌↔◌, ℕ, ◌<◌, ◌≤◌, ◌⊎◌, false, true, List, ◌∷◌, filter, length, map, Some, None}
 use Rattle.std.specs.List.{enumerate_from, flat_map}
 use Rattle.hc_records.specs.declared.edit.Edit.{Edit}

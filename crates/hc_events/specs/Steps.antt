@@ -1,4 +1,5 @@
--- What the core answers to each event, and what it accepts of it. `Calls` says which events may be answered with `Memory` instead.
+-- The answer of the core to each event, and the entries that it accepts. `Calls` has the events that may be answered with
+-- `Memory` instead.
 use Rattle.std.specs.Prelude.{ℕ, ◌+◌, ◌==◌, ◌||◌, not, nat_lt, is_none, Bool, if◌then◌else◌, List, [], ◌∷◌, ◌++◌, length, map, Option, Some, None, option_map, Result, Ok, Err}
 use Rattle.std.specs.List.{list_any}
 use Rattle.hc_records.specs.declared.limits.TheConstants.{TASKS}

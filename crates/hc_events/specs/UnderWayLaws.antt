@@ -1,4 +1,4 @@
--- What holds of register blocks that are under way, and of frames of further ones.
+-- Laws of register blocks that are under way, and of frames of further ones.
 use Rattle.std.specs.Prelude.{◌≡◌, ℕ, ◌==◌, true, false, All, Contains, List, ◌∷◌, Some}
 use Rattle.std.specs.List.{list_any}
 use Rattle.hc_registers.specs.Blocks.{LineBlock, line_blocks}

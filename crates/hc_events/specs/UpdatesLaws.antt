@@ -1,5 +1,5 @@
--- What holds of updates and of changes: what is read is the last good answer in them, and a legal list of changes decides what is read by
--- itself.
+-- Laws of updates and of changes: a task reads the data of the last good answer in them, and a legal list of changes alone
+-- decides which data are read.
 use Rattle.std.specs.Prelude.{◌≡◌, ◌↔◌, ℕ, false, All, Contains, List, [], ◌∷◌, ◌++◌, map, None, Some}
 use Rattle.std.specs.List.{list_any, zip}
 use Rattle.hc_records.specs.declared.records.Group.{Group}

@@ -1,4 +1,4 @@
--- What holds of lists of changes one after another, and of what they show. Each law is the contract of a function of `laws`.
+-- Laws of lists of changes one after another, and of the data that they show. Each law is the contract of a function of `laws`.
 use Rattle.std.specs.Prelude.{◌≡◌, ◌↔◌, ℕ, ◌<◌, ◌≤◌, List, ◌++◌, length, map, Option, None}
 use Rattle.std.specs.List.{range_with_len}
 use Rattle.hc_records.specs.declared.limits.TheConstants.{LAST_EPOCH, TASKS}

@@ -1,6 +1,7 @@
--- What the words of a history say where no slave's registers are forgotten, and each register write is sent in a frame of its own. These are the words as they were before there was anything else, and they stay
--- as they are for good: a law says that the core answers every such history as these words have it (`laws`). Of the blocks that a frame writes they see the first one alone. Words that depend on neither are the
--- other files'.
+-- The words of a history in which no slave's registers are forgotten, and each register write is sent in a frame of its own.
+-- These are the words as they were before there was anything else, and they stay as they are for good: a law says that the core
+-- answers every such history as these words have it (`laws`). Of the blocks that a frame writes they see only the first one.
+-- Words that depend on neither are those of the other files.
 use Rattle.std.specs.Prelude.{ℕ, ◌==◌, ◌&&◌, ◌||◌, not, nat_lt, Bool, false, if◌then◌else◌, List, [], ◌∷◌, ◌++◌, filter, fold, length, map, Option, Some, None, option_and_then, option_map, Result, Ok, Err}
 use Rattle.std.specs.Option.{option_map_or}
 use Rattle.std.specs.List.{flat_map, list_all, list_any, range_with_len, zip}

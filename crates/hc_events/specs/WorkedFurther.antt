@@ -85,7 +85,7 @@ all_again : answers_to both_under_way (SendsWrites ∷ three_back 1 1 1 1 ∷ wr
 unfolding bit_of number_of starts_within
 all_again = refl
 
--- Where nothing is under way, a further frame is the frame of the first owed blocks.
+-- A further frame is the frame of the first owed blocks if nothing is under way.
 
 at_first : answers_to opened (SendsFurther ∷ four_of_axis 0 ∷ SendsFurther ∷ [])
     ≡ answer.WritesSent (four_writes 0) ∷ answer.Written (Done ∷ Done ∷ Done ∷ Done ∷ []) ∷ answer.Refused NothingOwed ∷ []

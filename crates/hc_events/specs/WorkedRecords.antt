@@ -59,7 +59,7 @@ wrong_counters : answers_to answered_twice (
 unfolding bit_of number_of starts_within
 wrong_counters = refl
 
--- What is sent before anything was posted is 0, and what is sent to no task that there is is refused.
+-- A task that posted nothing is sent with zeros, and a sending of a task that does not exist is refused.
 
 unposted : answers_to written (SendsTasks (0 ∷ []) ∷ SendsTasks (8 ∷ []) ∷ SendsTasks (1 ∷ []) ∷ [])
     ≡ answer.Sent ((head_of 4 0x0f ++ 0x0c ∷ 0x04 ∷ 0 ∷ 0 ∷ 0 ∷ 0x01 ∷ 0x03 ∷ replicate 37 0) ∷ [])

@@ -13,7 +13,7 @@ use Rattle.hc_events.specs.Calls.{send_into_faults, write_into_faults}
 use Rattle.hc_events.specs.Steps.{Posts, SendsTasks, Reads, answers_to, post_faults, serials_left, task_faults, write_faults}
 use Rattle.hc_events.specs.WorkedAxis.{opened, written}
 
--- Where several refusals hold, the first one is answered: no such task, another epoch, another length.
+-- The first of several refusals is the answer: no such task, another epoch, another length.
 
 refused_posts : answers_to written (
     Posts 8 1 (2 ∷ 0 ∷ [])

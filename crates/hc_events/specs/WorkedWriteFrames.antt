@@ -155,7 +155,7 @@ nothing_to_write : lowest (write_all_into_faults written 0) ≡ Some NothingOwed
 unfolding bit_of number_of starts_within
 nothing_to_write = refl
 
--- How many blocks a frame holds: 74 of 8 bytes, and 62 where blocks of 8 and 16 bytes take turns, so that 104 of them take two frames.
+-- A frame holds 74 blocks of 8 bytes, and 62 if blocks of 8 and 16 bytes take turns, so that 104 of them take two frames.
 
 abbrev block_of : ℕ → LineBlock
 block_of size = record { station = 1001; number = 0; block = record { register = 0x0600; bytes = replicate size 0 } }

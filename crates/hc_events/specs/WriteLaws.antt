@@ -1,4 +1,5 @@
--- What register writes leave known: what a good answer makes known of a block, and what is owed after frames of writes that are answered well.
+-- Laws of the knowledge that register writes leave: a good answer makes the bytes of a block known, and frames of writes that
+-- are answered well leave these blocks owed.
 use Rattle.std.specs.Prelude.{◌≡◌, ℕ, ◌&&◌, not, true, false, if◌then◌else◌, All, Bool, IsNone, List, [], ◌∷◌, ◌++◌, filter, option_map, Some}
 use Rattle.std.specs.List.{list_all, list_any}
 use Rattle.hc_records.specs.Lists.{lowest}

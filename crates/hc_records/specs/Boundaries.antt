@@ -1,4 +1,4 @@
--- Where the datagrams of a task begin, and which of them an edit leaves as they were.
+-- The keys at which the datagrams of a task begin, and the datagrams that an edit leaves as they were.
 use Rattle.std.specs.Prelude.{ℕ, ◌==◌, ◌&&◌, ◌||◌, not, nat_lt, Bool, false, if◌then◌else◌, List, [], ◌∷◌, ◌++◌, length, drop, map, filter, find, fold, sum_by, Option, Some, None}
 use Rattle.std.specs.Option.{option_map_or}
 use Rattle.std.specs.List.{list_any, zip}

@@ -1,4 +1,4 @@
--- What follows for a task's image, its datagrams and its variables. Each is the contract of a function of `laws`.
+-- Laws of a task's image, its datagrams and its variables. Each is the contract of a function of `laws`.
 use Rattle.std.specs.Prelude.{◌≡◌, ◌≢◌, ℕ, ◌+◌, ◌*◌, ◌<◌, ◌≤◌, ◌⊎◌, All, None, Some, List}
 use Rattle.hc_records.specs.declared.limits.TheConstants.{MOST_DATAGRAM_BYTES, MOST_DATAGRAMS, MOST_ENTRY_BITS, TASKS}
 use Rattle.hc_records.specs.declared.records.Dir.TheVariants.{In, Out}

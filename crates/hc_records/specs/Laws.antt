@@ -1,4 +1,4 @@
--- What follows from the definitions, so that a reader can trust them. Each is the contract of a function of `laws`.
+-- Laws that follow from the definitions. Each is the contract of a function of `laws`.
 use Rattle.std.specs.Prelude.{◌≡◌, ℕ, ◌+◌, ◌*◌, ◌%◌, ◌<◌, ◌≤◌, ◌⊎◌, true, IsTrue, All, AllPairs, Contains, None, List, [], ◌∷◌, ◌++◌, length, map, if◌then◌else◌}
 use Rattle.std.specs.List.{flat_map}
 use Rattle.hc_records.specs.declared.limits.TheConstants.{MOST_AREA_BITS, MOST_DATAGRAM_BYTES}

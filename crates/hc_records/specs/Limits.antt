@@ -1,4 +1,5 @@
--- What every project keeps, as relations: each value in its range, each name once, each area of a slave in memory of its own.
+-- The limits of every project, as relations: each value in its range, each name once, each area of a slave in memory of its
+-- own.
 use Rattle.std.specs.Prelude.{◌≡◌, ◌≢◌, ℕ, ◌+◌, ◌<◌, ◌≤◌, false, All, AllPairs, List, [], ◌∷◌, length}
 use Rattle.hc_records.specs.declared.limits.TheConstants.{LAST_SYNC_MANAGER, MEMORY_START, MEMORY_END, MOST_AREA_BITS, MOST_AREAS, MOST_ENTRIES, MOST_ENTRY_BITS, MOST_GROUPS, MOST_PDOS, MOST_SLAVES, TASKS}
 use Rattle.hc_records.specs.declared.records.Pdo.{Pdo}

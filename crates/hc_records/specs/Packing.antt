@@ -1,4 +1,4 @@
--- How the areas of a task's list are packed into datagrams, from the front (this project's profile).
+-- The packing of the areas of a task's list into datagrams, from the first datagram on (this project's profile).
 use Rattle.std.specs.Prelude.{ℕ, ◌+◌, ◌*◌, ◌/◌, nat_le, ◌||◌, if◌then◌else◌, Bool, List, [], ◌∷◌}
 use Rattle.hc_records.specs.declared.limits.TheConstants.{MOST_AREA_BITS}
 use Rattle.hc_records.specs.declared.records.Dir.{Dir}

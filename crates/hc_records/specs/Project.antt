@@ -1,4 +1,4 @@
--- What every project keeps: each value in its range, and each name once.
+-- The conditions of every project: each value in its range, and each name once.
 use Rattle.std.specs.Prelude.{ℕ, ◌+◌, ◌-◌, ◌/◌, ◌==◌, ◌&&◌, ◌||◌, not, min, nat_lt, Bool, true, List, [], ◌∷◌, length, map, sum_by, Option}
 use Rattle.std.specs.List.{filter_map, flat_map, list_any}
 use Rattle.hc_records.specs.declared.limits.TheConstants.{LAST_SYNC_MANAGER, MEMORY_START, MEMORY_END, MOST_AREA_BITS, MOST_AREAS, MOST_ENTRIES, MOST_ENTRY_BITS, MOST_GROUPS, MOST_PDOS, MOST_SLAVES, TASKS}

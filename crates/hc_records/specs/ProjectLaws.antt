@@ -1,4 +1,4 @@
--- What a project's conditions say of its line and of its areas. Each is the contract of a function of `laws`.
+-- Laws of the line and the areas of a project, from the project's conditions. Each is the contract of a function of `laws`.
 use Rattle.std.specs.Prelude.{◌≡◌, ℕ, ◌*◌, ◌<◌, ◌≤◌, false, All, AllPairs, None, List, [], ◌∷◌, ◌++◌, map}
 use Rattle.hc_records.specs.declared.limits.TheConstants.{MEMORY_END, MEMORY_START}
 use Rattle.hc_records.specs.declared.records.Area.{Area}

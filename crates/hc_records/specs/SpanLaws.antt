@@ -1,4 +1,4 @@
--- What follows for the spans of a task: a settled one carries what it carried. Each is the contract of a function of `laws`.
+-- Laws of the spans of a task: a settled span carries what it carried before. Each is the contract of a function of `laws`.
 use Rattle.std.specs.Prelude.{◌≡◌, ℕ, ◌&&◌, true, Bool, if◌then◌else◌, All, Contains, None, List, [], ◌∷◌, filter, map, slice_get, Some}
 use Rattle.hc_records.specs.declared.keys.Key.{Key}
 use Rattle.hc_records.specs.declared.keys.TheConstants.Key.{END}

@@ -1,4 +1,5 @@
--- What is written into a block is read from it, a slave's blocks are apart, and a datagram's counter is counted in one pass. Each is the contract of a function of `laws`.
+-- Laws of the blocks and of the working counter: the fields of a block are read as they were written, a slave's blocks are
+-- apart, and a datagram's counter is counted in one pass. Each is the contract of a function of `laws`.
 use Rattle.std.specs.Prelude.{◌≡◌, ℕ, ◌+◌, ◌/◌, ◌%◌, ◌<◌, ◌≤◌, ◌^◌, length, slice_index, sum_by, All, AllPairs, Contains, IsTrue, List, None}
 use Rattle.hc_records.specs.declared.limits.TheConstants.{MOST_AREA_BITS}
 use Rattle.hc_records.specs.declared.records.Area.{Area}

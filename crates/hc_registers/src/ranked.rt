@@ -1,4 +1,4 @@
-//! What is given by rank of the blocks of a line and of the slaves that leave it.
+//! `RankedBlock` and `Gone`: the blocks of a line, and the slaves that leave it, by rank.
 ghost use Rattle.std.specs.Prelude.{◌≡◌, ◌≤◌};
 ghost use Rattle.hc_registers.specs.RankPlaces.{place};
 

@@ -1,4 +1,4 @@
--- What contracts see of the two ends of a ring of frames. A frame is the list of its bytes.
+-- The model of the two ends of a ring of frames. A frame is the list of its bytes.
 use Rattle.std.specs.Prelude.{ℕ, List}
 use Rattle.rtrb.specs.Ring.{sent, received, known_items, producer_capacity, IsPair, SameProducer, SameConsumer}
 use Rattle.hc_rings.specs.declared.frames.FrameSender.{FrameSender}

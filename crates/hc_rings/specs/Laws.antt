@@ -1,4 +1,4 @@
--- What follows from the definitions.
+-- Laws that follow from the definitions.
 use Rattle.std.specs.Prelude.{◌≡◌, ℕ, List, ◌++◌, length}
 use Rattle.hc_rings.specs.Post.{Post, overwritten}
 use Rattle.hc_rings.specs.Ring.{taken, left, EndCameAfter}

@@ -1,4 +1,4 @@
--- What a lender ends as, once the loan of a buffer or of bytes is over.
+-- The final state of a lender, once the loan of a buffer or of bytes is over.
 use Rattle.std.specs.Prelude.{ℕ, List, Option, Some, Result}
 use Rattle.std.specs.Option.{option_map}
 use Rattle.std.specs.Borrow.{Lends, LendsSoOk, MutBor, Fml, Array, u8}

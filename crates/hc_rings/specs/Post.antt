@@ -1,4 +1,4 @@
--- What contracts see of the buffer of a post.
+-- The model of the buffer of a post.
 use Rattle.std.specs.Prelude.{ℕ, List, ◌++◌, length, take, drop, replicate, Option, Some, None}
 
 -- the epoch that a post is for, and its output bytes

@@ -1,4 +1,4 @@
--- What contracts see of the two ends of a ring of posts: what was posted, what was taken, and what is left.
+-- The model of the two ends of a ring of posts: the posts that were posted, those that were taken, and those that are left.
 use Rattle.std.specs.Prelude.{◌≡◌, ◌+◌, ◌-◌, ◌⊎◌, ℕ, List, ◌++◌, length, true, Option, Some, None}
 use Rattle.rtrb.specs.Ring.{sent, received, known_free, known_items, IsPair, SameProducer, SameConsumer}
 use Rattle.hc_rings.specs.Post.{Post, post_count}

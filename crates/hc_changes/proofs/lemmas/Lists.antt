@@ -1,4 +1,4 @@
--- What a list contains, what is found in it, and what a `flat_map` over it needs of its elements.
+-- The elements of a list, those that are found in it, and the conditions of a `flat_map` over it.
 use Rattle.std.proofs.Common.{◌≡◌, ℕ, ◌+◌, ◌<◌, zero, suc, Bool, true, false, cond, List, [], ◌∷◌, ◌++◌, Contains, append_assoc, drop, get_or, length, refl, sym, ap, subst, ◌∙◌, ⊎_elim, arith, rules}
 use Rattle.std.specs.Prelude.{All, AllPairs, Option, Some, filter, find, map}
 use Rattle.std.specs.List.{flat_map}

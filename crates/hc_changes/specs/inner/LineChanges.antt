@@ -1,4 +1,4 @@
--- What differs in the line where a slave of one group gets other areas.
+-- The differences in the line if a slave of one group gets other areas.
 use Rattle.std.specs.Prelude.{map, option_to_list, slice_get}
 use Rattle.hc_records.specs.declared.records.Declared.{Declared}
 use Rattle.hc_groups.specs.declared.changes.AreasChange.{AreasChange}

@@ -90,7 +90,7 @@ IsWorkReady old report (NewLine work) = IsLineReady old report work
 IsWorkReady old report (NewTask change) = IsTaskReady old report change
 IsWorkReady old report (NewGroup declaration) = CanDeclare old.groups declaration
 
--- so it is, and a prepared edit gives it with the blocks that it moves
+-- the work can be carried out, and with this report and these moved blocks it makes a prepared edit
 pub record CanCarry (old : State) (report : Report) (work : Work) (blocks : List RankedBlock) : Type 0 where
   pub ready : IsWorkReady old report work
   pub prepared : IsPrepared (prepared_of old work report blocks)

@@ -1,4 +1,4 @@
--- What the slaves of a datagram add to its working counter is what its areas add in their order.
+-- The numbers that the slaves of a datagram add to its working counter sum up to those that its areas add in their order.
 use Rattle.std.proofs.Common.{◌≡◌, ℕ, suc, zero, ◌+◌, ◌<◌, Bool, true, false, List, [], ◌∷◌, refl, sym, ap, ◌∙◌, arith}
 use Rattle.std.specs.Prelude.{All, AllPairs, Contains, IsTrue, Some, None, slice_index_or, sum_by, ◌==◌, ◌&&◌, ◌||◌, if◌then◌else◌}
 use Rattle.std.specs.List.{list_any}
