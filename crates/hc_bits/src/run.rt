@@ -198,8 +198,8 @@ pub fn put_bits(bytes: &mut [u8], at: usize, n: usize, value: u64)
 
 /// Replaces the `n` bits of `to` from bit `at2` on by the `n` bits of `from` from bit `at` on. Every other bit stays.
 ///
-/// Both runs lie in their slices, and `n` has no other bound. The call cannot fail. Runs that begin at the same bit of a byte
-/// are copied byte by byte, and others by words of 64 bits and by bytes.
+/// Both runs lie in their slices, and `n` has no other bound. The call cannot fail. If both runs begin at the same bit of a
+/// byte, their whole bytes are copied as memory; otherwise they are copied by words of 64 bits and by bytes.
 pub fn copy_bits(from: &[u8], at: usize, to: &mut [u8], at2: usize, n: usize)
     requires from_within { at + n ≤ 8 * length from.now }
     requires to_within { at2 + n ≤ 8 * length to.old }

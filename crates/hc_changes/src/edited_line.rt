@@ -119,8 +119,8 @@ impl<'a> EditedLine<'a> {
         self.groups.groups()
     }
 
-    /// The number, from 0, of a declared group from which a walk over the slaves meets each one with this rank or a
-    /// higher one, and the rank of the group's first slave. It takes no memory.
+    /// Returns the number, from 0, of a declared group from which a walk over the slaves meets each one with this rank or a
+    /// higher one, and the rank of the group's first slave. It allocates nothing.
     pub(crate) fn group_before(&self, rank: u16) -> (usize, u16)
         ensures inside { result.0 ≤ length self.now.old }
         ensures first { result.1 ≡ sum_by declared_count (take result.0 self.now.old) + 1 }

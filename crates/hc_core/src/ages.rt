@@ -69,7 +69,7 @@ impl Ages {
         Ok(Ages { ages })
     }
 
-    /// The datagrams of a task have no age from now on, and those of every other task keep theirs.
+    /// Clears the ages of a task's datagrams. Those of every other task stay.
     pub(crate) fn clear_task(&mut self, task: Task)
         ensures { Undates self.old self.new task }
     {
@@ -81,7 +81,7 @@ impl Ages {
         );
     }
 
-    /// A datagram has this age from now on. Its number in the task is 0 to 15.
+    /// Sets the age of a datagram. Its number in the task is 0 to 15.
     pub(crate) fn put(&mut self, task: Task, number: u8, age: DataAge)
         requires { number < MOST_DATAGRAMS }
         ensures { Dates self.old self.new task number age }
@@ -89,7 +89,7 @@ impl Ages {
         self.ages[slot_number(task.number(), number)] = Some(age);
     }
 
-    /// The age of a datagram's data, or none. Its number in the task is 0 to 15.
+    /// Returns the age of a datagram's data, or none. Its number in the task is 0 to 15.
     pub(crate) fn get(&self, task: Task, number: u8) -> Option<DataAge>
         requires { number < MOST_DATAGRAMS }
         ensures { result ≡ age_of self.now task number }

@@ -65,8 +65,7 @@ pub(crate) fn put_changes(
     Ok(())
 }
 
-/// An outcome's data are those of its datagram from now on, and this is their serial and their epoch, if the outcome is a good
-/// answer.
+/// Stores the data of an outcome as those of its datagram, with their serial and their epoch, if the outcome is a good answer.
 fn put_good(
     inputs: &mut Inputs,
     ages: &mut Ages,
@@ -95,7 +94,7 @@ fn put_good(
     }
 }
 
-/// The data of an arrival's good answers are those of their datagrams from now on, one after another. They answer the sending with
+/// Stores the data of an arrival's good answers as those of their datagrams, one after another. They answer the sending with
 /// the arrival's serial, and came in this epoch.
 pub(crate) fn put_good_answers(
     inputs: &mut Inputs,

@@ -19,15 +19,15 @@ use std::alloc::{AllocError, Global};
 use std::marker::Model;
 use std::snapshot::Snapshot;
 
-/// An edit with all memory for carrying it out in a core: its part of the line, the output values that move, the slaves
-/// that it declares, and the changes that nobody took with one more.
+/// An edit with all memory for carrying it out in a core: its part of the line, the output values that move, the slaves that it
+/// declares, and room for the changes that were not taken and one more.
 #[derive(Drop)]
 pub(crate) struct PlannedEdit {
     pub(crate) edit: PreparedEdit,
     pub(crate) moves: Moves,
     // for the slaves that the edit declares
     pub(crate) slaves: Option<SlaveRoom>,
-    // has room for the changes that nobody took, and for the swap after them
+    // has room for the changes that were not taken, and for the swap after them
     pub(crate) room: Vec<Change>,
 }
 

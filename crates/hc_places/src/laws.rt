@@ -9,8 +9,8 @@ pub fn tables_have_places()
     ensures { TablesHavePlaces }
 {}
 
-/// A variable is among the changed ones of two tables exactly where its place differs, one that appears
-/// or goes included.
+/// A variable is among the changed ones of two tables exactly if its place differs. This includes a variable that appears or
+/// goes.
 pub fn changed_variables_differ()
     ensures { ChangedVariablesDiffer }
 {}

@@ -202,7 +202,7 @@ impl Plan {
         remap_fault(&self.indexed(), station, area, pdos)
     }
 
-    /// The number of blocks of the present line. It takes no memory.
+    /// Returns the number of blocks of the present line. It allocates nothing.
     pub fn blocks(&self) -> u32
         ensures { result ≡ length (config (line self.now)).blocks }
     {

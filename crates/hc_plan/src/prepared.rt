@@ -62,8 +62,8 @@ impl PreparedEdit {
         &self.report
     }
 
-    /// The blocks that move, with their new bytes, in line and block order: those that the report names. It takes
-    /// no memory.
+    /// Returns the blocks that move, with their new bytes, in line and block order: those that the report names. It allocates
+    /// nothing.
     pub fn blocks(&self) -> &[RankedBlock]
         ensures blocks { result.now ≡ self.now.blocks }
         ensures prepared { IsPrepared self.now }
@@ -71,7 +71,7 @@ impl PreparedEdit {
         self.blocks.as_slice()
     }
 
-    /// The slaves that leave the line: those of a group that goes. It takes no memory.
+    /// Returns the slaves that leave the line: those of a group that goes. It allocates nothing.
     pub fn gone(&self) -> Gone
         ensures gone { result ≡ self.now.gone }
         ensures prepared { IsPrepared self.now }

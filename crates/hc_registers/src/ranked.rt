@@ -35,7 +35,7 @@ impl Model for RankedBlock {
 pub struct Gone {
     /// The rank of the first of them, from 1.
     pub rank: u16,
-    /// How many they are; 0 where none leaves.
+    /// The number of these slaves; 0 if none leaves.
     pub slaves: u16,
 }
 
