@@ -34,7 +34,7 @@ pub record KeepsBlocks (register_state : RegisterState) (plan : State) : Type 0 
 abbrev pub IsLineBlock : State → PlacedBlock → Type 0
 IsLineBlock state placed = slice_get (places state) placed.place ≡ Some (Some placed.block)
 
--- those of the lacking blocks from a place on whose newest write isn't awaited
+-- the lacking blocks from a place on whose newest write is not awaited
 abbrev pub further_from : Knowledge → State → Waiting → ℕ → List LineBlock
 further_from known state waiting place =
     filter (λ block. not (is_newest_awaited block.station block.number waiting)) (owed_from known state place)
@@ -112,7 +112,7 @@ known_done state [] outcomes known = known
 known_done state (block ∷ blocks) [] known = known
 known_done state (block ∷ blocks) (outcome ∷ outcomes) known = known_done state blocks outcomes (known_if state block outcome known)
 
--- an arrival's datagrams are those of register blocks, one at least isn't stale, and these are their outcomes
+-- an arrival's datagrams are those of register blocks, at least one is not stale, and these are their outcomes
 pub record AreWriteOutcomes (datagrams : List Judged) (outcomes : List Outcome) : Type 0 where
   pub updates : list_any is_current datagrams ≡ true
   pub blocks : list_any (λ datagram. is_block datagram.head.item) datagrams ≡ true

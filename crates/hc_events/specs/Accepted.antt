@@ -96,7 +96,8 @@ AreAccepted [] = ⊥
 AreAccepted (Opened groups ∷ history) = history ≡ []
 AreAccepted (entry ∷ history) = IsAccepted history entry × AreAccepted history
 
--- what holds of each record that events lead to, and what a law of such records asks for: each entry after the opening was accepted when it came, and there are no more sendings than serials
+-- the property of each record that events lead to, which the laws of such records require: each entry after the opening was
+-- accepted when it came, and there are no more sendings than serials
 pub record IsReachable (history : History) : Type 0 where
   pub accepted : AreAccepted history
   pub few : next_serial history ≤ SETUP_SERIAL
@@ -106,6 +107,6 @@ pub record IsLedTo (groups : List Group) (history : History) : Type 0 where
   pub reachable : IsReachable history
   pub groups_are : opened_with history ≡ groups
 
--- so is each
+-- each record that events lead to is such a record (`IsLedTo`)
 abbrev pub RecordsAreReachable : Type 0
 RecordsAreReachable = (groups : List Group) (steps : List Step) → IsLedTo groups (history_of groups steps)

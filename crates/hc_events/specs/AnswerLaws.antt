@@ -44,8 +44,8 @@ AnswersTheSerial =
     (history : History) (arrival : Arrival) (sending : Sending)
     → (answered_by history arrival ≡ Some sending) ↔ IsFirstAnswer history arrival sending
 
--- what a sending says of a datagram is what the line says of it: of this datagram of a task, or of one of the line's register blocks,
--- which is the one that the sending's head names, since its write has this head
+-- the head of an item is that of the line: the head of this datagram of a task, or of one of the line's register blocks, which
+-- is the one that the sending's head names, since its write has this head
 abbrev pub IsItemOf : List Member → Item → Head → Type 0
 IsItemOf line (DatagramItem task d) head = IsInLine line (task, d) × (head ≡ data_head line (task, d))
 IsItemOf line (Block station number) head = (block : LineBlock) × Contains (line_blocks line) block × (head ≡ write_head block)
@@ -78,7 +78,7 @@ pub record AnswersTheAwaited (history : History) (arrival : Arrival) : Type 0 wh
   pub updates : (is_stale_to history arrival ≡ false) ↔ IsAwaited history arrival
   pub answers : (a : IsAwaited history arrival) → IsAnsweredAs history arrival a.sending
 
--- so it is of any record and any arrival
+-- `AnswersTheAwaited` holds for any record and any arrival
 abbrev pub AwaitedAreAnswered : Type 0
 AwaitedAreAnswered = (history : History) (arrival : Arrival) → AnswersTheAwaited history arrival
 
@@ -87,7 +87,8 @@ abbrev pub HasOwnNames : List Member → Type 0
 HasOwnNames line =
     (a b : LineBlock) → Contains (line_blocks line) a → Contains (line_blocks line) b → same_item (block_item a) (block_item b) ≡ true → a ≡ b
 
--- so it is in the line of any project's state: `Project::groups` gives the condition of the opened groups, and `Plan` of the state's after its edits
+-- `HasOwnNames` holds for the line of any project's state: `Project::groups` returns the condition of the opened groups, and
+-- `Plan` that of the state's groups after its edits
 abbrev pub ProjectsHaveOwnNames : Type 0
 ProjectsHaveOwnNames = (state : State) → lowest_fault (groups_of state.groups) ≡ None → HasOwnNames (line state)
 
@@ -103,7 +104,7 @@ TwoWritesAreAwaited =
     → awaited history low ≡ Some older → is_write_sending older ≡ true → awaited history high ≡ Some newer → is_write_sending newer ≡ true
     → IsBesideOne older newer
 
--- where each register write was sent in a frame of its own, of two that carry the first owed block only one is awaited
+-- if each register write was sent in a frame of its own, only one of two that carry the first owed block is awaited
 abbrev pub OneWriteIsAwaited : Type 0
 OneWriteIsAwaited =
     (history : History) (serial other : ℕ) (write sending : Sending) → IsReachable history → HasOwnNames (line_of history)
@@ -127,7 +128,7 @@ abbrev pub sends_ready : Step → Bool
 sends_ready (SendsReady tasks) = true
 sends_ready step = false
 
--- so it is in each record of events without such a sending
+-- `sent_programmed` holds for each record of events without a sending of ready tasks
 abbrev pub SendTasksAreProgrammed : Type 0
 SendTasksAreProgrammed = (groups : List Group) (steps : List Step) → list_any sends_ready steps ≡ false → sent_programmed (history_of groups steps) ≡ true
 

@@ -38,7 +38,7 @@ abbrev pub has_head : Head → Part → Bool
 has_head head part =
     (code_of head.command == code_of part.command) && (head.address == part.address) && (head.length == length part.bytes)
 
--- the same for each datagram, in order and none missing
+-- each part has the head of its datagram, in order, with none missing and none left over
 abbrev pub has_heads : List Head → List Part → Bool
 has_heads [] [] = true
 has_heads [] (part ∷ parts) = false
@@ -95,11 +95,12 @@ abbrev pub is_dropped : Item → List HistoryEntry → Bool
 is_dropped (Datagram task d) since = false
 is_dropped (Block station number) since = list_any (forgets station) since || starts_over since
 
--- what was sent is out of date: it was dropped or sent again since
+-- an item that was sent is out of date: it was dropped or sent again since
 abbrev pub is_outdated : Item → List HistoryEntry → Bool
 is_outdated item since = is_dropped item since || list_any (sends item) since
 
--- what an answer is for a datagram: good by its working counter, wrong by it, or stale where the datagram or block was sent again since, or the block's write was dropped
+-- the verdict on an answer to a datagram: good by its working counter, wrong by it, or stale if the datagram or block was sent
+-- again since, or if the block's write was dropped
 pub data Verdict : Type 0 where
   Good : Verdict
   Wrong : Verdict
@@ -117,7 +118,8 @@ is_stale Good = false
 is_stale Wrong = false
 is_stale Stale = true
 
--- what came back of a datagram is stale where it is out of date (`is_outdated`), else good where its working counter is the expected one, else wrong
+-- the verdict on a part that came back: stale if its datagram is out of date (`is_outdated`), otherwise good if its working
+-- counter is the expected one, otherwise wrong
 abbrev pub verdict : List HistoryEntry → Head → Part → Verdict
 verdict since head part =
     if is_outdated head.item since then Stale else (if part.counter == head.expected then Good else Wrong)

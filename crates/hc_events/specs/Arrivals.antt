@@ -17,6 +17,6 @@ abbrev pub read_unless : Option FrameFault → Arrival → Result Arrival FrameF
 read_unless None arrival = Ok arrival
 read_unless (Some fault) arrival = Err fault
 
--- what bytes that arrived are read as: the first fault why they can't be read (`fault_in`), or else their serial and datagrams
+-- the reading of bytes that arrived: the first fault why they cannot be read (`fault_in`), or their serial and datagrams
 abbrev pub arrival_in : List ℕ → Result Arrival FrameFault
 arrival_in bytes = read_unless (fault_in bytes) (reading_of bytes)

@@ -24,7 +24,7 @@ still_awaited serial sending =
     if is_ended serial sending || all_outdated sending.since sending.heads then None
     else Some (record { heads = sending.heads; since = filter is_no_arrival sending.since })
 
--- what is awaited with a serial
+-- the awaited sending with a serial, or none
 abbrev pub awaited : History → ℕ → Option Sending
 awaited history serial = option_and_then (still_awaited serial) (sending_of history serial)
 

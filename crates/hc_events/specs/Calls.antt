@@ -39,11 +39,12 @@ pub record IsOutOfMemory (history : History) (step : Step) (answer_given : Answe
   pub answer : answer_given ≡ answer.Refused Memory
   pub entries : next ≡ history
 
--- what may be answered to an event, and the record that is then left: `Memory` may take the place of any answer to an event that takes some
+-- the answer that an event may have, and the record that is then left: `Memory` may take the place of any answer to an event
+-- that allocates
 abbrev pub MayAnswer : History → Step → Answer → History → Type 0
 MayAnswer history step answer_given next = IsAnswered history step answer_given next ⊎ IsOutOfMemory history step answer_given next
 
--- so many bytes are needed, and the slice has fewer
+-- the fault of a slice with fewer bytes than are needed
 abbrev pub room_faults : ℕ → ℕ → List (Bool × CoreFault)
 room_faults needed bytes = (nat_lt bytes needed, Room needed) ∷ []
 
@@ -80,13 +81,14 @@ send_into_faults history tasks bytes = task_faults history tasks ++ room_faults 
 abbrev pub ready_into_faults : History → List ℕ → ℕ → List (Bool × CoreFault)
 ready_into_faults history tasks bytes = ready_faults history tasks ++ room_faults (frames_size history tasks) bytes
 
--- what the caller keeps to who sends tasks: at least one, as many as there are tasks at most, and none twice; whether there is such a task is judged by the event
+-- the condition on a caller that sends tasks: they are at least one and at most as many as there are tasks, and none twice. A
+-- number that is no task's is judged by the event
 pub record AreSentTogether (tasks : List ℕ) : Type 0 where
   pub some : 0 < length tasks
   pub most : length tasks ≤ TASKS
   pub distinct : has_repeat tasks ≡ false
 
--- the same as a test
+-- a test that tasks are at least one, at most as many as there are tasks, and none twice
 abbrev pub are_together : List ℕ → Bool
 are_together tasks = nat_lt 0 (length tasks) && nat_le (length tasks) TASKS && not (has_repeat tasks)
 

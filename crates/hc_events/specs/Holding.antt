@@ -43,7 +43,8 @@ held_after_answer good write held =
 abbrev pub comes : History → Edit → ℕ → Bool
 comes history edit station = not (is_in_line history station) && is_in_line (Edited edit ∷ history) station
 
--- what the register of the block with a number may hold in the slave with a station address. Forgotten registers, answers that are stale or that missed, and edits that don't bring the slave change nothing of it
+-- the bytes that the register of the block with a number may hold in the slave with a station address. Forgotten registers,
+-- answers that are stale or that missed, and edits that do not bring the slave change nothing of it
 abbrev pub may_hold : History → ℕ → ℕ → MayHold
 may_hold [] station number = unknown_register
 may_hold (Opened groups ∷ history) station number = unknown_register

@@ -28,7 +28,7 @@ written_at address = (address % 65536, address / 65536)
 abbrev pub HasItsAddress : Judged → Type 0
 HasItsAddress datagram = datagram.part.address ≡ datagram.head.address
 
--- so has each datagram that an arrival answers
+-- each datagram that an arrival answers has its head's address
 abbrev pub AddressesAreThoseSent : Type 0
 AddressesAreThoseSent = (history : History) (arrival : Arrival) → All HasItsAddress (judged_by history arrival)
 
@@ -43,11 +43,13 @@ pub record IsNamedByAddress (line : List Member) (datagram : Judged) : Type 0 wh
 abbrev pub HasFewDatagrams : List Member → Type 0
 HasFewDatagrams line = (named : Named) → IsInLine line named → named.1 < MOST_DATAGRAMS
 
--- so it is in the line of any project's state in which no task has more than 16 datagrams: `Plan` gives both conditions of its state
+-- `HasFewDatagrams` holds for the line of any project's state in which no task has more than 16 datagrams: `Plan` gives both
+-- conditions of its state
 abbrev pub ProjectsHaveFewDatagrams : Type 0
 ProjectsHaveFewDatagrams = (state : State) → lowest_fault (groups_of state.groups) ≡ None → over_limit_task (line state) ≡ None → HasFewDatagrams (line state)
 
--- where an arrival answers frames of tasks each of its datagrams names a task's datagram of the present line: the one that was sent in its place
+-- if an arrival answers frames of tasks, each of its datagrams names a task's datagram of the present line: the one that was
+-- sent in its place
 abbrev pub AnsweredAreNamed : Type 0
 AnsweredAreNamed =
     (history : History) (arrival : Arrival) (outcomes : List Outcome) → IsReachable history → HasFewDatagrams (line_of history)

@@ -10,7 +10,7 @@ use Rattle.hc_records.specs.Image.{VariablePlace, datagram_length, datagram_offs
 use Rattle.hc_events.specs.Entries.{History, Opened, Edited, Posted}
 use Rattle.hc_events.specs.Points.{line_of}
 
--- where a bit of a variable is in its task's image
+-- the position of a bit of a variable in its task's image
 abbrev pub image_bit : List Member → VariablePlace → ℕ → ℕ
 image_bit line place k = 8 * datagram_offset (task_places place.task line) place.datagram + place.bit + k
 

@@ -29,7 +29,7 @@ pub record AreSentAlike (history : History) (tasks : List ℕ) : Type 0 where
   pub answers : answer_to history (SendsReady tasks) ≡ answer_to history (SendsTasks tasks)
   pub entries : entries_after history (SendsReady tasks) ≡ entries_after history (SendsTasks tasks)
 
--- so it is where nothing is owed and no register outside the line concerns one of the tasks
+-- `AreSentAlike` holds if nothing is owed and no register outside the line concerns one of the tasks
 abbrev pub BothEventsSendAlike : Type 0
 BothEventsSendAlike =
     (history : History) (tasks : List ℕ) → owed_blocks history ≡ [] → All (λ (task : ℕ). waited_for_outside history task ≡ []) tasks
@@ -40,7 +40,7 @@ pub record AreReadySent (history : History) (tasks : List ℕ) : Type 0 where
   pub answer_given : answer_to history (SendsReady tasks) ≡ answer.Sent (map (sent_text history) (proposal history tasks))
   pub found : All (IsFound history (entries_after history (SendsReady tasks))) (proposal history tasks)
 
--- so it is with every sending of ready tasks that has no fault
+-- `AreReadySent` holds for every sending of ready tasks that has no fault
 abbrev pub ReadyFramesAreFound : Type 0
 ReadyFramesAreFound = (history : History) (tasks : List ℕ) → IsNone (lowest (ready_faults history tasks)) → AreReadySent history tasks
 

@@ -27,7 +27,7 @@ abbrev pub is_opening : HistoryEntry → Bool
 is_opening (Opened groups) = true
 is_opening entry = false
 
--- what an entry that is sent after a record says of its datagrams
+-- the heads of the datagrams of an entry that is sent after a record
 abbrev pub heads_of : History → HistoryEntry → List Head
 heads_of history (Sent frame) = data_heads (line_of history) frame
 heads_of history (Wrote blocks) = write_heads blocks
@@ -48,7 +48,7 @@ pub record HasItsSending (history : History) (serial : ℕ) : Type 0 where
   pub below : (serial < next_serial history) ↔ IsSome (sending_of history serial)
   pub which : (sending : Sending) → (sending_of history serial ≡ Some sending) ↔ IsSendingAt history serial sending
 
--- so it is with every serial, in any record
+-- `HasItsSending` holds for every serial, in any record
 abbrev pub SendingsHaveSerials : Type 0
 SendingsHaveSerials = (history : History) (serial : ℕ) → HasItsSending history serial
 
@@ -80,7 +80,7 @@ pub record AreSent (history : History) (tasks : List ℕ) : Type 0 where
   pub answer_given : answer_to history (SendsTasks tasks) ≡ answer.Sent (map (sent_text history) (proposal history tasks))
   pub found : All (IsFound history (entries_after history (SendsTasks tasks))) (proposal history tasks)
 
--- so it is with every sending of tasks that has no fault
+-- `AreSent` holds for every sending of tasks that has no fault
 abbrev pub SentFramesAreFound : Type 0
 SentFramesAreFound = (history : History) (tasks : List ℕ) → IsNone (lowest (task_faults history tasks)) → AreSent history tasks
 
@@ -92,7 +92,7 @@ pub record BlockIsWritten (history : History) : Type 0 where
   pub answer_given : answer_to history SendsWrite ≡ answer.WriteSent (write_text (next_serial history) block)
   pub found : sending_of (entries_after history SendsWrite) (next_serial history) ≡ Some (sending_of_heads (write_head block ∷ []))
 
--- so it is with every write that has no fault
+-- `BlockIsWritten` holds for every write that has no fault
 abbrev pub SentWritesAreFound : Type 0
 SentWritesAreFound = (history : History) → IsNone (lowest (write_faults history (owed_blocks history))) → BlockIsWritten history
 
@@ -102,7 +102,7 @@ pub record BlocksAreWritten (history : History) : Type 0 where
   pub answer_given : answer_to history SendsWrites ≡ writes_answer (next_serial history) (frame_blocks (owed_blocks history))
   pub found : sending_of (entries_after history SendsWrites) (next_serial history) ≡ Some (sending_of_heads (write_heads (frame_blocks (owed_blocks history))))
 
--- so it is with every such frame that has no fault
+-- `BlocksAreWritten` holds for every frame of the first owed blocks that has no fault
 abbrev pub SentWriteFramesAreFound : Type 0
 SentWriteFramesAreFound = (history : History) → IsNone (lowest (write_faults history (owed_blocks history))) → BlocksAreWritten history
 
@@ -129,6 +129,6 @@ pub record ComesAgain (serial : ℕ) (d : Datagram) (ds : List Datagram) : Type 
       (later : ℕ) (e : Datagram) (es : List Datagram) → serial < later → later < serial + 256
       → index_in (frame_text later (e ∷ es)) ≢ index_in (frame_text serial (d ∷ ds))
 
--- so it is with the text of any frame, whatever its datagrams are
+-- `ComesAgain` holds for the text of any frame, whatever its datagrams are
 abbrev pub IndexesComeAgain : Type 0
 IndexesComeAgain = (serial : ℕ) (d : Datagram) (ds : List Datagram) → ComesAgain serial d ds

@@ -14,7 +14,7 @@ use Rattle.hc_events.specs.Points.{epoch_of, state_of}
 use Rattle.hc_events.specs.Images.{NewAnswer, is_for, new_answer_by}
 use Rattle.hc_events.specs.Ready.{serves_task}
 
--- what an edit changes
+-- the tasks that an edit changes
 
 -- two lists have equal elements, in order, by a test of two elements
 abbrev pub same_lists : {X : Type 0} → (X → X → Bool) → List X → List X → Bool
@@ -66,7 +66,7 @@ task_epoch (Opened groups ∷ history) task = 0
 task_epoch (Edited edit ∷ history) task = if edit_changes history edit task then epoch_of history + 1 else task_epoch history task
 task_epoch (entry ∷ history) task = task_epoch history task
 
--- what a task reads over edits that don't change it
+-- the data that a task reads over edits that do not change it
 
 -- the data of a good answer, with the serial of the sending that it answered and the epoch in which it came
 pub record SteadyData : Type 0 where

@@ -33,7 +33,7 @@ pub record MovesTaskEpoch (history : History) (edit : Edit) (task : ℕ) : Type 
   pub left : edit_changes history edit task ≡ false → task_epoch (Edited edit ∷ history) task ≡ task_epoch history task
   pub same_data : (d : ℕ) → edit_changes history edit task ≡ false → steady_data (Edited edit ∷ history) task d ≡ steady_data history task d
 
--- so does each edit
+-- `MovesTaskEpoch` holds for each edit and each task
 abbrev pub EditsMoveTaskEpochs : Type 0
 EditsMoveTaskEpochs = (history : History) (edit : Edit) (task : ℕ) → MovesTaskEpoch history edit task
 
@@ -48,7 +48,7 @@ pub record AreSteady (history : History) (task d : ℕ) (bytes : List ℕ) : Typ
   pub date : data_serial history task d ≡ Some serial
   pub steady : steady_data history task d ≡ Some (record { bytes = bytes; serial = serial; epoch = epoch_of history })
 
--- so are any that it reads
+-- `AreSteady` holds for all data that a task reads
 abbrev pub SlotsAreSteady : Type 0
 SlotsAreSteady = (history : History) (task d : ℕ) (bytes : List ℕ) → slot_of history task d ≡ Some bytes → AreSteady history task d bytes
 
@@ -64,11 +64,12 @@ pub record FitsSteadily (history : History) (task d : ℕ) (found : SteadyData) 
   pub most : found.epoch ≤ epoch_of history
   pub size : length found.bytes ≡ line_data_length (line_of history) (task, d)
 
--- so do all steady data
+-- `FitsSteadily` holds for all steady data
 abbrev pub SteadyDataFit : Type 0
 SteadyDataFit = (history : History) (task d : ℕ) (found : SteadyData) → steady_data history task d ≡ Some found → FitsSteadily history task d found
 
--- what a steady post is accepted for: there is the task, the epoch is from the last edit that changed the task to the present one, and the bytes are as many as the task has outputs
+-- the condition of a steady post: there is the task, the epoch is from the last edit that changed the task to the present one,
+-- and the bytes are as many as the task has outputs
 pub record IsSteadyPost (history : History) (task epoch : ℕ) (bytes : List ℕ) : Type 0 where
   pub there : task < TASKS
   pub from : task_epoch history task ≤ epoch

@@ -78,7 +78,8 @@ edit_answer old new = answer.Edited new.epoch (recut (line old) (line new)) (mov
 abbrev pub is_no_task : ℕ → Bool
 is_no_task task = not (nat_lt task TASKS)
 
--- what refuses a post, in order: 8 no such task, 15 another epoch than the present one, 16 not the task's number of output bytes
+-- the faults of a post, in order: `NoSuchTask`; `StalePost` for another epoch than the present one; `PostLength` if the bytes
+-- are not as many as the task's output bytes
 abbrev pub post_faults : History → ℕ → ℕ → List ℕ → List (Bool × CoreFault)
 post_faults history task epoch bytes =
     (is_no_task task, NoSuchTask)
@@ -92,7 +93,8 @@ post_faults history task epoch bytes =
 abbrev pub is_stale_epoch : History → ℕ → ℕ → Bool
 is_stale_epoch history task epoch = nat_lt epoch (task_epoch history task) || nat_lt (epoch_of history) epoch
 
--- what refuses a steady post, in order: 8 no such task, 15 an epoch before the last edit that changed the task or after the present one, 16 not the task's number of output bytes
+-- the faults of a steady post, in order: `NoSuchTask`; `StalePost` for an epoch before the last edit that changed the task or
+-- after the present one; `PostLength` if the bytes are not as many as the task's output bytes
 abbrev pub post_steady_faults : History → ℕ → ℕ → List ℕ → List (Bool × CoreFault)
 post_steady_faults history task epoch bytes =
     (is_no_task task, NoSuchTask)
@@ -114,7 +116,8 @@ has_serials history sendings = serials_left (next_serial history) sendings
 abbrev pub proposal : History → List ℕ → List Frame
 proposal history tasks = sendings_of (line_of history) (next_serial history) tasks
 
--- what refuses sending the tasks, in order: 8 one is no task, 17 blocks are owed, with their number, 19 fewer serials are left than frames
+-- the faults of sending tasks, in order: `NoSuchTask` if one is no task; `Unprogrammed` if blocks are owed, with their number;
+-- `SerialsSpent` if fewer serials are left than frames
 abbrev pub task_faults : History → List ℕ → List (Bool × CoreFault)
 task_faults history tasks =
     (list_any is_no_task tasks, NoSuchTask)
@@ -128,7 +131,8 @@ task_faults history tasks =
 abbrev pub wait_fault : History → ℕ → Bool × CoreFault
 wait_fault history task = (not (is_ready history task), Waits task (length (waited_for history task)) (length (waited_for_outside history task)))
 
--- what refuses sending ready tasks, in order: 8 one is no task, 36 the first of them that waits, 19 fewer serials are left than frames
+-- the faults of sending ready tasks, in order: `NoSuchTask` if one is no task; `Waits` of the first of them that waits;
+-- `SerialsSpent` if fewer serials are left than frames
 abbrev pub ready_faults : History → List ℕ → List (Bool × CoreFault)
 ready_faults history tasks =
     (list_any is_no_task tasks, NoSuchTask)
@@ -151,7 +155,8 @@ with_sent history (sending ∷ sendings) = with_sent (Sent sending.datagrams ∷
 
 -- a register write: the first owed block's
 
--- what refuses a register write where these blocks are owed, in order: 18 there are none, 19 no serial is left
+-- the faults of a register write if these blocks are owed, in order: `NothingOwed` if there are none; `SerialsSpent` if no
+-- serial is left
 abbrev pub write_faults : History → List LineBlock → List (Bool × CoreFault)
 write_faults history blocks = (length blocks == 0, NothingOwed) ∷ (not (has_serials history 1), SerialsSpent) ∷ []
 
@@ -184,7 +189,8 @@ with_writes history (block ∷ blocks) = Wrote (block ∷ blocks) ∷ history
 
 -- a further frame of register writes: the first owed blocks that aren't under way, as many as it holds; it is answered as a frame of the first owed blocks is
 
--- what refuses it, in order: 18 nothing is owed, 37 each owed block is under way, 19 no serial is left
+-- the faults of a further frame, in order: `NothingOwed` if nothing is owed; `UnderWay` if each owed block is under way;
+-- `SerialsSpent` if no serial is left
 abbrev pub further_faults : History → List (Bool × CoreFault)
 further_faults history =
     (length (owed_blocks history) == 0, NothingOwed)
@@ -194,23 +200,26 @@ further_faults history =
 
 -- an arrival: what it is for each datagram of the tasks, or for each register write; stale where it answers no sending or each datagram is stale
 
--- what is said of a good datagram: the inputs of a task's datagram, or that a register block's write is done
+-- the outcome of a good datagram: the inputs of a task's datagram, or that a register block's write is done
 abbrev pub inputs_of : Item → Outcome
 inputs_of (DatagramItem task d) = outcome.Inputs task d
 inputs_of (Block station number) = outcome.Done
 
--- what is said of a wrong datagram: of a task's the expected counter and the one that came, of a register block that its write missed
+-- the outcome of a wrong datagram: the expected counter of a task's datagram and the one that came, or that a register block's
+-- write missed
 abbrev pub wrong_of : Item → ℕ → ℕ → Outcome
 wrong_of (DatagramItem task d) expected got = outcome.WrongCount expected got
 wrong_of (Block station number) expected got = outcome.Missed
 
--- what is said of a datagram by its verdict: `inputs_of` its item where good, `wrong_of` its item with the head's expected counter and the one that came where wrong, `Stale` where stale
+-- the outcome of a datagram by its verdict: `inputs_of` its item if it is good, `wrong_of` its item with the expected counter
+-- and the one that came if it is wrong, `Stale` if it is stale
 abbrev pub outcome_of : Head → Part → Verdict → Outcome
 outcome_of head part Good = inputs_of head.item
 outcome_of head part Wrong = wrong_of head.item head.expected part.counter
 outcome_of head part Stale = outcome.Stale
 
--- what is said of a judged datagram: where it is good `Inputs` of a task's and `Done` of a register block; where it is wrong `WrongCount` with the expected counter and the one that came, or `Missed`; `Stale` where it is stale
+-- the outcome of a judged datagram: if it is good, `Inputs` of a task's and `Done` of a register block; if it is wrong,
+-- `WrongCount` with the expected counter and the one that came, or `Missed`; `Stale` if it is stale
 abbrev pub outcome_for : Judged → Outcome
 outcome_for datagram = outcome_of datagram.head datagram.part datagram.verdict
 
@@ -244,19 +253,20 @@ abbrev pub with_arrival : History → Result Arrival FrameFault → History
 with_arrival history (Err fault) = history
 with_arrival history (Ok arrival) = Came arrival ∷ history
 
--- what a task reads
+-- the data that a task reads
 
--- what refuses a read: 8 no such task
+-- the fault of a read: `NoSuchTask`
 abbrev pub read_faults : ℕ → List (Bool × CoreFault)
 read_faults task = (is_no_task task, NoSuchTask) ∷ []
 
--- what a read of a task is answered: the epoch, and the data of each of the task's datagrams
+-- the answer to a read of a task: the epoch, and the data of each of the task's datagrams
 abbrev pub image_of : History → ℕ → Answer
 image_of history task = answer.Image (epoch_of history) (slots_of history task)
 
 -- forgetting a slave's registers
 
--- what refuses it, in order, as an edit of one of the slave's areas is refused: 5 no declared slave has the station address, 6 that slave isn't in the line
+-- the faults of forgetting a slave, in order, as an edit of one of the slave's areas is refused: `UnknownStation` if no
+-- declared slave has the station address; `Absent` if that slave is not in the line
 abbrev pub forget_faults : History → ℕ → List (Bool × CoreFault)
 forget_faults history station =
     (not (is_declared_station (state_of history) station), UnknownStation)
@@ -265,11 +275,12 @@ forget_faults history station =
 
 -- clearing and unplugging a slave
 
--- what refuses clearing a slave: 5 no declared slave has the station address
+-- the fault of clearing a slave: `UnknownStation` if no declared slave has the station address
 abbrev pub clear_faults : History → ℕ → List (Bool × CoreFault)
 clear_faults history station = (not (is_declared_station (state_of history) station), UnknownStation) ∷ []
 
--- what refuses a slave's unplugging, in order: 5 no declared slave has the station address, 2 the slave is in the line
+-- the faults of unplugging a slave, in order: `UnknownStation` if no declared slave has the station address; `AlreadyPresent`
+-- if the slave is in the line
 abbrev pub unplug_faults : History → ℕ → List (Bool × CoreFault)
 unplug_faults history station =
     (not (is_declared_station (state_of history) station), UnknownStation)

@@ -20,7 +20,7 @@ pub record IsAsAtFirst (history : History) : Type 0 where
   pub answer : answer_to history SendsFurther ≡ answer_to history SendsWrites
   pub entries : entries_after history SendsFurther ≡ entries_after history SendsWrites
 
--- so it is where no owed block is under way
+-- `IsAsAtFirst` holds if no owed block is under way
 abbrev pub FurtherIsAsAtFirst : Type 0
 FurtherIsAsAtFirst =
     (history : History) → All (λ block. is_under_way history block.station block.number ≡ false) (owed_blocks history) → IsAsAtFirst history

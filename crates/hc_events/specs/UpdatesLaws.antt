@@ -23,7 +23,7 @@ pub record Grows (old new : List Update) : Type 0 where
   pub more : List Update
   pub joined : new ≡ old ++ more
 
--- so do any events after any record
+-- `Grows` holds for the updates before any events and after them
 abbrev pub UpdatesOnlyGrow : Type 0
 UpdatesOnlyGrow = (history : History) (steps : List Step) → Grows (updates_of history) (updates_of (entries_after_all history steps))
 
@@ -48,7 +48,7 @@ abbrev pub AreUpdatesOf : History → Update → Type 0
 AreUpdatesOf history (Swapped edit) = Contains history (Edited edit)
 AreUpdatesOf history (Answered good) = IsGoodAnswer history good
 
--- so it is of all the updates of a record
+-- `AreUpdatesOf` holds for all updates of a record
 abbrev pub UpdatesAreOfTheHistory : Type 0
 UpdatesAreOfTheHistory = (history : History) → All (AreUpdatesOf history) (updates_of history)
 
@@ -65,7 +65,7 @@ pub record IsLastAnswer (task d : ℕ) (bytes : List ℕ) (updates : List Update
   pub split : updates ≡ before ++ Answered (record { task = task; datagram = d; bytes = bytes }) ∷ after_it
   pub leaves : All (LeavesData task d) after_it
 
--- what a task reads of a datagram is just that
+-- the data that a task reads of a datagram are those of its last good answer in the updates
 abbrev pub SlotsAreLastAnswers : Type 0
 SlotsAreLastAnswers = (history : History) (task d : ℕ) (bytes : List ℕ) → (slot_of history task d ≡ Some bytes) ↔ IsLastAnswer task d bytes (updates_of history)
 
@@ -82,7 +82,7 @@ pub record DecidesAll (groups : List Group) (changes : List Change) : Type 0 whe
   pub slots : (task d : ℕ) (bytes : List ℕ) → (slot_after task d None changes ≡ Some bytes) ↔ IsLastAnswer task d bytes (map update_in changes)
   pub fits : (task d : ℕ) (bytes : List ℕ) → slot_after task d None changes ≡ Some bytes → IsAnswerIn (state_after_changes (opened groups) changes) task d bytes
 
--- so does each legal one
+-- `DecidesAll` holds for each legal list of changes
 abbrev pub LegalChangesDecide : Type 0
 LegalChangesDecide = (groups : List Group) (changes : List Change) → AreLegal groups changes → DecidesAll groups changes
 

@@ -22,7 +22,7 @@ pub record LeadsOn (first second : List Change) : Type 0 where
   pub slots : (task d : ℕ) (slot : Option (List ℕ)) → slot_after task d slot (first ++ second) ≡ slot_after task d (slot_after task d slot first) second
   pub state : (state : State) → state_after_changes state (first ++ second) ≡ state_after_changes (state_after_changes state first) second
 
--- so it is with any two
+-- `LeadsOn` holds for any two lists of changes
 abbrev pub ChangesLeadOn : Type 0
 ChangesLeadOn = (first second : List Change) → LeadsOn first second
 
@@ -36,7 +36,8 @@ LegalJoins =
 abbrev pub LegalEpochsFit : Type 0
 LegalEpochsFit = (groups : List Group) (changes : List Change) → AreLegal groups changes → epoch_after 0 changes ≤ LAST_EPOCH
 
--- what a list of changes shows of a task of a project: the epoch, and of each datagram that the table after it has of the task the data after it, or none
+-- the answer that a list of changes shows for a task of a project: the epoch, and for each datagram that the table after it has
+-- of the task the data after it, or none
 abbrev pub answer_shown : List Group → List Change → ℕ → Answer
 answer_shown groups changes task =
     answer.Image

@@ -54,7 +54,8 @@ sending_of (entry ∷ history) serial = option_map (followed_by entry) (sending_
 abbrev pub answered_by : History → Arrival → Option Sending
 answered_by history arrival = option_and_then (only_if (is_answer arrival)) (sending_of history arrival.serial)
 
--- what an answer is for a datagram: stale where the same datagram or block was sent again since, else good or wrong by its working counter
+-- the verdict on an answer to a datagram: stale if the same datagram or block was sent again since, otherwise good or wrong by
+-- its working counter
 abbrev pub verdict : List HistoryEntry → Head → Part → Verdict
 verdict since head part =
     if list_any (sends head.item) since then Stale else (if part.counter == head.expected then Good else Wrong)
@@ -81,7 +82,7 @@ still_awaited serial sending =
     if is_ended serial sending || all_sent_again sending.since sending.heads then None
     else Some (record { heads = sending.heads; since = filter is_no_arrival sending.since })
 
--- what is awaited with a serial
+-- the awaited sending with a serial, or none
 abbrev pub awaited : History → ℕ → Option Sending
 awaited history serial = option_and_then (still_awaited serial) (sending_of history serial)
 
@@ -152,7 +153,8 @@ is_owed history block = not (option_map_or (bytes_eq block.block.bytes) (known_b
 abbrev pub owed_blocks : History → List LineBlock
 owed_blocks history = filter (is_owed history) (line_blocks (line_of history))
 
--- what refuses sending tasks, in order: 8 one is no task, 17 blocks are owed, with their number, 19 fewer serials are left than frames
+-- the faults of sending tasks, in order: `NoSuchTask` if one is no task; `Unprogrammed` if blocks are owed, with their number;
+-- `SerialsSpent` if fewer serials are left than frames
 abbrev pub task_faults : History → List ℕ → List (Bool × CoreFault)
 task_faults history tasks =
     (list_any is_no_task tasks, NoSuchTask)
@@ -160,7 +162,7 @@ task_faults history tasks =
     ∷ (not (has_serials history (length (proposal history tasks))), SerialsSpent)
     ∷ []
 
--- what is said of a judged datagram of a task
+-- the outcome of a good datagram of a task
 abbrev pub inputs_of : Item → Outcome
 inputs_of (Datagram task d) = outcome.Inputs task d
 inputs_of (Block station number) = outcome.Stale
@@ -171,7 +173,7 @@ outcome_of head part Good = inputs_of head.item
 outcome_of head part Wrong = outcome.WrongCount head.expected part.counter
 outcome_of head part Stale = outcome.Stale
 
--- the same of the judged datagram
+-- the outcome of a judged datagram
 abbrev pub outcome_for : Judged → Outcome
 outcome_for datagram = outcome_of datagram.head datagram.part datagram.verdict
 

@@ -1,5 +1,5 @@
--- Laws of the knowledge that register writes leave: a good answer makes the bytes of a block known, and frames of writes that
--- are answered well leave these blocks owed.
+-- Laws of the knowledge that register writes leave: a good answer makes the bytes of a block known. Other laws tell the blocks
+-- that are owed after frames of writes that are answered well.
 use Rattle.std.specs.Prelude.{◌≡◌, ℕ, ◌&&◌, not, true, false, if◌then◌else◌, All, Bool, IsNone, List, [], ◌∷◌, ◌++◌, filter, option_map, Some}
 use Rattle.std.specs.List.{list_all, list_any}
 use Rattle.hc_records.specs.Lists.{lowest}
@@ -37,7 +37,7 @@ leaves_known history (Forgot station) = false
 leaves_known history (Came arrival) = not (list_any confirms_block (judged_by history arrival))
 leaves_known history entry = true
 
--- so does each of these entries, the newest first
+-- each of these entries leaves the knowledge, the newest first
 abbrev pub leave_known : History → List HistoryEntry → Bool
 leave_known history [] = true
 leave_known history (entry ∷ since) = leaves_known (since ++ history) entry && leave_known history since

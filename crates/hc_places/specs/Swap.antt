@@ -145,7 +145,7 @@ pub record Leads (old new : Table) (swap : Swap) : Type 0 where
 abbrev pub LeadsAsSaid : Change → Swap → Type 0
 LeadsAsSaid said swap = (old new : Table) → IsTable old → IsTable new → SaysWhatDiffers old new said → Leads old new swap
 
--- a variable is among the changed ones of two tables exactly where its place differs
+-- a variable is among the changed ones of two tables exactly if its place differs
 abbrev pub ChangedVariablesDiffer : Type 0
 ChangedVariablesDiffer =
     (old new : Table) (variable : ℕ)
@@ -156,7 +156,8 @@ abbrev pub ChangedVariablesOccurOnce : Type 0
 ChangedVariablesOccurOnce =
     (old new : Table) → RowsAscend old.variables → RowsAscend new.variables → AllPairs (λ a b. a ≢ b) (changed_variables old new)
 
--- in the table that a change leads to, a variable is where the change says, and where it was if the change says nothing
+-- in the table that a change leads to, a variable has the place that the change says, and the one that it had if the change
+-- says nothing
 abbrev pub SwapsMoveTheirVariables : Type 0
 SwapsMoveTheirVariables =
     (change : Change) (table : Table) → RowsAscend table.variables → (variable : ℕ)

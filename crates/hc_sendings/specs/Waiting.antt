@@ -55,7 +55,7 @@ as_sent frame = record { serial = frame.serial; datagrams = map just_sent frame.
 abbrev pub is_named : Named → Named → Bool
 is_named named other = (named.0 == other.0) && (named.1 == other.1)
 
--- a datagram of an older frame after a sending of these datagrams: that frame isn't its newest if it is one of them
+-- a datagram of an older frame after a sending of these datagrams: that frame is no longer its newest if it is one of them
 abbrev pub sent_again : List Named → AwaitedDatagram → AwaitedDatagram
 sent_again again carried =
     record { datagram = carried.datagram; last_sent = carried.last_sent && not (list_any (is_named carried.datagram) again) }
