@@ -20,8 +20,8 @@ use Rattle.hc_sendings.specs.Refusals.{early_faults}
 abbrev pub early_ready_faults : History → List ℕ → List (Bool × CoreFault)
 early_ready_faults history tasks = (list_any is_no_task tasks, NoSuchTask) ∷ map (wait_fault history) tasks
 
--- the fault of an event that is judged before memory is allocated: of an edit the one that it has by itself; of tasks that
--- there is no such task, that blocks are owed, or that one waits; of any other event each fault that it has
+-- the fault of an event that is judged before memory is allocated. For an edit it is the one that the edit has by itself; for
+-- tasks, that there is no such task, that blocks are owed, or that one waits; for any other event each fault that it has
 abbrev pub early_fault : History → Step → Option CoreFault
 early_fault history (Edits edit) = option_map edit_refusal (own_fault (state_of history).groups edit)
 early_fault history (Posts task epoch bytes) = lowest (post_faults history task epoch bytes)

@@ -167,10 +167,12 @@ impl Core {
 
     /// Serves an arrival of any bytes as `step` does, with a list of outcomes that is used again. If the arrival answers a
     /// frame of tasks or one of several register writes, the list has the outcome of each datagram, in the frame's order;
-    /// otherwise it is empty. Its capacity never falls. It allocates if the list is too short for these outcomes, at most 115;
-    /// if the list of changes grows; and for the data of good answers, which go into returned buffers (`give_back`) as long as
-    /// there are some. A fault of the frame, 20 to 27, is reported even if memory is short; otherwise `Memory` if an allocation
-    /// fails. After a failure nothing has changed, and the list is empty.
+    /// otherwise it is empty. Its capacity never falls.
+    ///
+    /// It allocates if the list is too short for these outcomes, at most 115, and if the list of changes grows. It allocates
+    /// for the data of good answers, which go into returned buffers (`give_back`) as long as there are some. A fault of the
+    /// frame, 20 to 27, is reported even if memory is short; otherwise `Memory` if an allocation fails. After a failure nothing
+    /// has changed, and the list is empty.
     pub fn arrive_into(
         &mut self,
         alloc: Global,

@@ -22,10 +22,10 @@ use std::alloc::Global;
 use std::snapshot::Snapshot;
 
 impl Core {
-    /// Returns the core of a project at its opening: only the mandatory group is present, the epoch and the next serial are 0,
-    /// no frame is awaited, no datagram has data, every output value is 0, every register block is owed, and there is no
-    /// change. Fails with `TooManyDatagrams` and the lowest task that needs more than 16 datagrams, or with `Memory` if an allocation
-    /// fails; the project is then dropped.
+    /// Returns the core of a project at its opening. Only the mandatory group is present, the epoch and the next serial are 0,
+    /// no frame is awaited, and no datagram has data. Every output value is 0, every register block is owed, and there is no
+    /// change. Fails with `TooManyDatagrams` and the lowest task that needs more than 16 datagrams, or with `Memory` if an
+    /// allocation fails; the project is then dropped.
     pub fn new(alloc: Global, project: Project) -> Result<Core, EditFault>
         ensures opened { IfOk result (λ core. core ≡ record { history = just_opened project; taken = just_opened project }) }
         ensures accepted { OnOk result (over_limit_task (line (opened project)) ≡ None) }

@@ -19,8 +19,8 @@ use std::alloc::{AllocError, Global};
 use std::marker::Model;
 use std::snapshot::Snapshot;
 
-/// An edit with all memory for carrying it out in a core: its part of the line, the output values that move, the slaves that it
-/// declares, and room for the changes that were not taken and one more.
+/// An edit with all memory for carrying it out in a core: its part of the line, the output values that move, and the slaves
+/// that it declares. It also has room for the changes that were not taken and one more.
 #[derive(Drop)]
 pub(crate) struct PlannedEdit {
     pub(crate) edit: PreparedEdit,
@@ -67,8 +67,9 @@ impl CoreEdit {
         &self.planned.edit
     }
 
-    /// The tasks that will wait once the edit is carried out and each slave that came with it is cleared (`cleared`), as a number:
-    /// bit t is 1 if task t waits, so that `send_ready_into` will refuse it. It takes no time (this project's profile).
+    /// Returns the tasks that will wait once the edit is carried out and each slave that came with it is cleared (`cleared`).
+    /// Bit t of the number is 1 if task t waits, so that `send_ready_into` will refuse it. It takes no time (this project's
+    /// profile).
     pub fn will_wait(&self) -> u8
         ensures { result ≡ waiting_after self.now.core.history self.now.edit.report.swap.edit }
     {

@@ -157,9 +157,9 @@ impl Core {
         Ok(Answer::Image { epoch, slots })
     }
 
-    /// Returns the image that a task reads: the present epoch, and for each datagram that the task has in the present line the
-    /// data of its last good answer in this epoch, or none if there was none. A task over 7 is refused with `NoSuchTask`, even
-    /// if memory is short. Fails with `AllocError` if an allocation fails.
+    /// Returns the image that a task reads: the present epoch, and data or none for each datagram that the task has in the
+    /// present line. The data are those of the datagram's last good answer in this epoch. A task over 7 is refused with
+    /// `NoSuchTask`, even if memory is short. Fails with `AllocError` if an allocation fails.
     pub fn read(&self, alloc: Global, task: u8) -> Result<Answer, AllocError>
         ensures answer { IfOk result (λ answer_given. answer_given ≡ answer_to self.now.history (Reads task)) }
         ensures early { IfSome (lowest (read_faults task)) (λ fault. result ≡ Ok (answer.Refused fault)) }

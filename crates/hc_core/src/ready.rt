@@ -87,12 +87,18 @@ impl Core {
 
     /// Proposes the frames in which 1 to 8 distinct ready tasks would be sent next, in their order, with the next serials, and
     /// puts them into a list that is used again. A task is ready if no owed register block of the line concerns it, and no
-    /// register of a declared slave outside the line may name it (this project's profile). Nothing is sent by it. The frames
-    /// can be filled (`fill`, `fill_part`), and committed as long as they are the present proposal (`commit`). What the list
-    /// held is dropped, it is empty if the tasks are refused, and its capacity never falls. A list with a capacity of 128
-    /// frames, 16 of each of the eight tasks, needs no allocation. Fails with the first of these: `NoSuchTask` if a number is
-    /// over 7; `Waits` with the first task that waits; `SerialsSpent` if too few serials are left. Fails with `Memory` if an
-    /// allocation fails, and only after the first two.
+    /// register of a declared slave outside the line may name it (this project's profile). It sends nothing. The frames can be
+    /// filled (`fill`, `fill_part`), and committed as long as they are the present proposal (`commit`).
+    ///
+    /// The earlier content of the list is dropped, the list is empty after a failure, and its capacity never falls. A list with
+    /// a capacity of 128 frames, 16 for each of the eight tasks, needs no allocation. It fails with the first of these that
+    /// holds:
+    ///
+    /// - `NoSuchTask`: a number is over 7.
+    /// - `Waits`: a task waits; the fault has the first such task.
+    /// - `SerialsSpent`: too few serials are left.
+    ///
+    /// `Memory` (an allocation failed) can come in place of the last one.
     pub fn propose_ready_into(
         &self,
         tasks: &[u8],
@@ -162,14 +168,19 @@ impl Core {
         Ok(needed)
     }
 
-    /// Sends 1 to 8 distinct ready tasks, while register blocks of other tasks may be owed: their frames are at the front of the
-    /// arena one after another, each of its own size, and in the list in that order. Returns the bytes of all frames; after
-    /// them the arena is as it was. Fails with the first of these: `NoSuchTask` if a number is over 7; `Waits` with the first
-    /// task that waits, the owed blocks that concern it and the registers outside the line that may name it; `SerialsSpent`
-    /// if too few serials are left; `Room` with the bytes needed if the arena is shorter. Fails with `Memory` if an
-    /// allocation fails, and only after the first two. After a failure nothing is sent, nothing has changed, the arena is as
-    /// it was, and the list is empty. A list with a capacity of 128 frames, 16 of each of the eight tasks, needs no
-    /// allocation; its capacity never falls (this project's profile).
+    /// Sends 1 to 8 distinct ready tasks, while register blocks of other tasks may be owed. Their frames are at the start of
+    /// the arena one after another, each of its own size, and in the list in that order. Returns the bytes of all frames; after
+    /// them the arena is as it was. It fails with the first of these that holds:
+    ///
+    /// - `NoSuchTask`: a number is over 7.
+    /// - `Waits`: a task waits. The fault has the first such task, the owed blocks that concern it, and the registers outside
+    ///   the line that may name it.
+    /// - `SerialsSpent`: too few serials are left.
+    /// - `Room`: the arena is too short; the fault has the bytes needed.
+    ///
+    /// `Memory` (an allocation failed) can come in place of the last two. After a failure nothing is sent, nothing has changed,
+    /// the arena is as it was, and the list is empty. A list with a capacity of 128 frames, 16 for each of the eight tasks,
+    /// needs no allocation; its capacity never falls (this project's profile).
     pub fn send_ready_into(
         &mut self,
         tasks: &[u8],

@@ -63,10 +63,10 @@ impl Core {
         }
     }
 
-    /// The steady data of a task: the present epoch, and of each datagram that the task has in the present line the data of the
-    /// last good answer since the last accepted edit that changed the task, or none if there was none since. A task over 7 is
-    /// refused with `NoSuchTask`, even if memory is short. Fails with `AllocError` if an allocation fails (this project's
-    /// profile).
+    /// Returns the steady data of a task: the present epoch, and data or none for each datagram that the task has in the
+    /// present line. The data are those of the datagram's last good answer since the last accepted edit that changed the task.
+    /// A task over 7 is refused with `NoSuchTask`, even if memory is short. Fails with `AllocError` if an allocation fails
+    /// (this project's profile).
     pub fn steady_read(&self, alloc: Global, task: u8) -> Result<Answer, AllocError>
         ensures answer { IfOk result (λ answer_given. answer_given ≡ steady_answer self.now.history task) }
         ensures early { IfSome (lowest (read_faults task)) (λ fault. result ≡ Ok (answer.Refused fault)) }

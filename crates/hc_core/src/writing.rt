@@ -198,12 +198,13 @@ impl Core {
         Ok(())
     }
 
-    /// The first owed blocks that are not under way are sent in one frame with the next serial, in the order in which they are
-    /// owed: as many as the frame holds, whatever the length of `out`. A block is under way as long as the answer to its last
-    /// write may still come; `write_all_into` sends it again. The frame is put at the front of `out`; its size and the number
-    /// of its blocks are returned. Earlier frames stay under way, and each answer counts for its own blocks; exception: if a
-    /// slave was forgotten since the last write, no answer to an earlier frame counts any more (ETG.1000.4, 5.3 and 5.4; this
-    /// project's profile).
+    /// Sends the first owed blocks that are not under way in one frame with the next serial, in the order in which they are
+    /// owed. The frame has as many blocks as it holds, whatever the length of `out`. A block is under way as long as the answer
+    /// to its last write may still come; `write_all_into` sends it again. The frame is at the start of `out`; its size and the
+    /// number of its blocks are returned.
+    ///
+    /// Earlier frames stay under way, and each answer counts for its own blocks. Exception: if a slave was forgotten since the
+    /// last write, no answer to an earlier frame counts any more (ETG.1000.4, 5.3 and 5.4; this project's profile).
     ///
     /// - `NothingOwed`: no block is owed.
     /// - `UnderWay`: each owed block is under way.
@@ -211,8 +212,8 @@ impl Core {
     /// - `Room`: `out` is shorter than the frame; the fault has the size needed.
     /// - `Memory`: an allocation failed.
     ///
-    /// Of several it is the first of these. After a fault nothing has changed, `out` neither. It allocates only if more further
-    /// frames are under way than ever before, and more than two.
+    /// It fails with the first of these that holds. After a failure nothing has changed, and `out` is as it was. It allocates
+    /// only if more further frames are under way than ever before, and more than two.
     pub fn write_further_into(
         &mut self,
         alloc: Global,

@@ -92,8 +92,8 @@ impl Tally {
         take_out(&mut self.blocks, was.sync_manager_concerns());
     }
 
-    /// Removes the FMMU's block of an area and its register from the counts, once a write of the block was answered well:
-    /// neither the block nor a register outside the line concerns a task any more.
+    /// Removes the FMMU's block of an area and its register from the counts, once a write of the block was answered well.
+    /// Neither the block nor a register outside the line concerns a task any more.
     pub(crate) fn confirm_fmmu(&mut self, was: JudgedArea)
         requires { CanPut self.old was }
         ensures { Puts self.old self.new was (fmmu_confirmed was) }

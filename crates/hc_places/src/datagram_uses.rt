@@ -16,9 +16,9 @@ use hc_records::task::Task;
 use hc_registers::counters::added_count;
 use hc_registers::fmmu::logical_address;
 
-/// The use of a datagram by areas: its bytes, 1 to 1,486, or 0 if there is no such datagram; the working counter that it comes
-/// back with when every slave of the line has processed it; and the number of its bytes before its first input, all of them if
-/// it has none.
+/// The use of a datagram by areas: its bytes, its expected working counter, and the number of its bytes before its first input.
+/// The bytes are 1 to 1,486, or 0 if there is no such datagram. The datagram comes back with the expected counter when every
+/// slave of the line has processed it. If it has no input, all its bytes come before the first one.
 #[derive(Clone, Copy, Default)]
 pub struct DatagramUse {
     pub length: u16,

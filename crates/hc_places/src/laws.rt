@@ -20,8 +20,8 @@ pub fn changed_variables_occur_once()
     ensures { ChangedVariablesOccurOnce }
 {}
 
-/// A swap leads from any table that has each variable once to a table with these places: a variable that the swap names has the
-/// place that the swap says, or none if the swap says none; every other variable has the place that it had.
+/// In the table that a swap leads to, a variable that the swap names has the place that the swap says, or none if the swap says
+/// none. Every other variable has the place that it had. The table before the swap is any table that has each variable once.
 pub fn swaps_move_their_variables()
     ensures { SwapsMoveTheirVariables }
 {}
@@ -32,8 +32,8 @@ pub fn swaps_keep_the_order()
     ensures { SwapsKeepTheOrder }
 {}
 
-/// In the table that a swap leads to, from any table, a task that the swap names has the table that the
-/// swap says; every other task has the one that it had, and no task comes or goes.
+/// In the table that a swap leads to, a task that the swap names has the table that the swap says. Every other task has the
+/// table that it had, and no task comes or goes. The table before the swap is any table.
 pub fn swaps_replace_their_tasks()
     ensures { SwapsReplaceTheirTasks }
 {}

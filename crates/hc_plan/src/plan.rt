@@ -250,9 +250,9 @@ impl Plan {
     }
 
     /// Returns the number, 0 to 3, that the slave with a station address adds to the working counter of the datagram of a task
-    /// with a number: 2 if the datagram carries outputs of it, and 1 if it carries inputs (ETG.1000.4, 5.4). None if the task
-    /// has no such datagram, or the line has no such slave. All slaves of the line together add the datagram's expected
-    /// counter.
+    /// with a number. It is 2 if the datagram carries outputs of the slave, and 1 if it carries inputs (ETG.1000.4, 5.4). None
+    /// if the task has no such datagram, or the line has no such slave. All slaves of the line together add the datagram's
+    /// expected counter.
     pub fn counter_share(&self, task: u8, datagram: u8, station: u16) -> Option<u16>
         ensures value { result ≡ share_at (line self.now) task datagram station }
         ensures low { IfSome result (λ share. share ≤ 3) }

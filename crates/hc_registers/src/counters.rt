@@ -50,9 +50,9 @@ fn weight(dir: Dir) -> u16
     }
 }
 
-/// Returns the number that the area with a key adds to the working counter of its datagram after the area before it, if there
-/// is one: 2 for outputs and 1 for inputs, and 0 if both areas are of one slave and direction. The sum of these numbers over a
-/// datagram's areas, whose keys ascend, is the datagram's expected counter, as `expected_count` returns it.
+/// Returns the number that the area with a key adds to the working counter of its datagram, after the area before it if there
+/// is one. It is 2 for outputs and 1 for inputs, and 0 if both areas are of one slave and direction. The sum of these numbers
+/// over a datagram's areas, whose keys ascend, is the datagram's expected counter, as `expected_count` returns it.
 pub fn added_count(before: Option<Key>, key: Key) -> u16
     ensures value { result ≡ added_share before key }
     ensures low { result ≤ 2 }

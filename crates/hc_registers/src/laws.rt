@@ -20,8 +20,8 @@ pub fn blocks_are_apart()
 {}
 
 /// The expected working counter of a datagram is counted in one pass over its areas, if their keys ascend strictly, and so do
-/// ranks among which each key's is. The counter by slaves, with 2 for the outputs and 1 for the inputs of each rank, is the sum
-/// over the areas one after another: 2 or 1, and 0 after an area of the same slave and direction.
+/// ranks among which each key's is. The counter by slaves has 2 for the outputs and 1 for the inputs of each rank. It is the
+/// sum over the areas one after another: 2 or 1, and 0 after an area of the same slave and direction.
 pub fn ascending_keys_are_counted()
     ensures { AscendingKeysAreCounted }
 {}

@@ -10,7 +10,7 @@ framed_from line serial (Some frame) datagrams = framed_after line frame datagra
 
 -- frames; the last is open, if there is one
 
--- those before it
+-- the closed frames: all but the last one
 abbrev pub closed : List Frame → List Frame
 closed frames = take (length frames - 1) frames
 

@@ -91,7 +91,7 @@ fn keep_awaited(frames: &mut Vec<StoredFrame>, last_sent: &LastSent)
 }
 
 /// True if the stored frames may stay when more come: the first stored one was not answered, and the serial of the last stored
-/// one is below that of the first one to come. True too if there are none of either.
+/// one is below that of the first one to come. True too if no frame is stored, or if none comes.
 fn may_stay(frames: &[StoredFrame], more: &[Sending]) -> bool
     requires stored { AllPairs (λ a b. a.serial < b.serial) frames.now }
     requires come { AllPairs (λ a b. a.serial < b.serial) more.now }

@@ -23,8 +23,8 @@ fn clear_each(writes: &mut [Write])
     }
 }
 
-/// Follows the sending of blocks in a later frame: it ends the writes that are the newest of no other block, or all of them if
-/// `is_over`, which means that a slave was forgotten since the last write.
+/// Follows the sending of blocks in a later frame. It ends the writes that are the newest of no other block. It ends all of
+/// them if `is_over`, which means that a slave was forgotten since the last write.
 fn retire_each(writes: &mut [Write], is_over: bool, again: &[PlacedBlock])
     ensures { writes.new ≡ map (left_after (map awaited_block again.now) is_over) writes.old }
 {
@@ -142,8 +142,8 @@ impl FurtherWrites {
         clear_each(&mut self.writes);
     }
 
-    /// Follows the sending of blocks in a later frame, of first owed or of further blocks: it ends the writes that are the
-    /// newest of no other block, or all of them if `is_over`, which means that a slave was forgotten since the last write.
+    /// Follows the sending of blocks in a later frame, of first owed or of further blocks. It ends the writes that are the
+    /// newest of no other block. It ends all of them if `is_over`, which means that a slave was forgotten since the last write.
     pub(crate) fn retire(&mut self, is_over: bool, again: &[PlacedBlock])
         ensures { self.new ≡ left_after (map awaited_block again.now) is_over self.old }
     {

@@ -75,8 +75,8 @@ fn frame_part(plan: &Plan, datagrams: &[Named], task: u8) -> usize
         + share(task, padding, datagrams.last().copied())
 }
 
-/// Returns the bytes of a task's part of frames of the plan's line: its datagrams, the 16 bytes before those of a frame whose
-/// first datagram is the task's, and the zeros after those of a frame whose last one is.
+/// Returns the bytes of a task's part of frames of the plan's line. The part has the task's datagrams, the 16 bytes before
+/// those of a frame whose first datagram is the task's, and the zeros after those of a frame whose last one is.
 pub fn part_size(plan: &Plan, frames: &[Sending], task: u8) -> usize
     requires are_placed { All (λ frame. All (IsInLine (line plan.now)) frame.datagrams) frames.now }
     requires few { length frames.now ≤ SETUP_SERIAL }

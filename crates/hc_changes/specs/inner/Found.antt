@@ -82,7 +82,7 @@ pub record IsGroupAt (groups : List Declared) (first : ℕ) (declared : Declared
 abbrev pub LieWithin : EditedLine → ℕ → ℕ → Type 0
 LieWithin edited_line low high = (rank : ℕ) → (low ≤ rank → rank ≤ high → ⊥) → rank_found edited_line rank ≡ []
 
--- ranks from one up to another, with others among them
+-- the ranks from one up to another include others
 abbrev pub HoldRanks : ℕ → ℕ → ℕ → ℕ → Type 0
 HoldRanks low high own_low own_high = (low ≤ own_low) × (own_high ≤ high)
 
@@ -93,11 +93,12 @@ pub record LiesBetween (from to : Key) (inputs : Bool) (key : Key) : Type 0 wher
   pub from_on : is_within from key ≡ true
   pub before : is_before key to ≡ true
 
--- ranks from one up to another, with those of the slaves that the edit concerns
+-- the ranks from one up to another include those of the slaves that the edit concerns
 abbrev pub HoldChanged : EditedLine → ℕ → ℕ → Type 0
 HoldChanged edited_line low high = (rank : ℕ) → changes edited_line.change rank ≡ true → (low ≤ rank) × (rank ≤ high)
 
--- ranks from one up to another, with those of the slaves that have areas of a task in datagrams which weren't kept up to them
+-- the ranks from one up to another include those of the slaves that have areas of a task in datagrams that were not kept up to
+-- them
 abbrev pub HoldRecut : EditedLine → ℕ → ℕ → ℕ → Type 0
 HoldRecut edited_line task low high =
     (found : LineArea) → found.area.task ≡ task → found.member.rank < 65536
