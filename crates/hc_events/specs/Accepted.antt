@@ -26,11 +26,12 @@ pub record IsPost (line : List Member) (task : ℕ) (bytes : List ℕ) : Type 0 
   pub is_placed : task < TASKS
   pub fits : length bytes ≡ output_length (task_places task line)
 
--- the frames where tasks are sent, by their datagrams
+-- the frames of a sending of tasks, by their datagrams
 abbrev pub frames_of : List Member → ℕ → List ℕ → List (List Named)
 frames_of line serial tasks = map (λ sending. sending.datagrams) (sendings_of line serial tasks)
 
--- one of the frames where a list of tasks is sent, of datagrams of the line, while nothing is owed, or each task that it carries is ready
+-- one of the frames of a sending of tasks, with datagrams of the line, while nothing is owed or each task that it carries is
+-- ready
 pub record IsFrame (history : History) (frame : List Named) : Type 0 where
   pub programmed : (owed_blocks history ≡ []) ⊎ All (λ (named : Named). is_ready history named.0 ≡ true) frame
   pub is_placed : All (IsInLine (line_of history)) frame
@@ -60,7 +61,7 @@ carries_first (Wrote blocks ∷ history) serial =
     (next_serial history ≡ serial → IsFirstWrite (owed_blocks history) blocks) × carries_first history serial
 carries_first (entry ∷ history) serial = carries_first history serial
 
--- a declared slave is cleared; where it is in the line it was forgotten first, so none of its writes counts
+-- a declared slave is cleared; if it is in the line it was forgotten first, so that none of its writes counts
 pub record IsClearing (history : History) (station : ℕ) : Type 0 where
   pub declared : is_declared_station (state_of history) station ≡ true
   pub forgotten : is_in_line history station ≡ true → (number : ℕ) → last_write history station number ≡ None
@@ -82,7 +83,7 @@ IsAccepted history (Forgot station) = is_in_line history station ≡ true
 IsAccepted history (Cleared station) = IsClearing history station
 IsAccepted history (Unplugged station) = IsUnplugging history station
 
--- the record of a project where nothing has happened, and what events make of it
+-- the record of a project in which nothing has happened
 abbrev pub just_opened : List Group → History
 just_opened groups = Opened groups ∷ []
 

@@ -73,7 +73,7 @@ pub record IsAnsweredAs (history : History) (arrival : Arrival) (sending : Sendi
   pub heads : answered.heads ≡ sending.heads
   pub judged : judged_by history arrival ≡ judged arrival sending
 
--- an arrival is no stale one just where it is awaited, and then it answers what is awaited
+-- an arrival is not stale exactly if it is awaited, and then it answers the awaited sending
 pub record AnswersTheAwaited (history : History) (arrival : Arrival) : Type 0 where
   pub updates : (is_stale_to history arrival ≡ false) ↔ IsAwaited history arrival
   pub answers : (a : IsAwaited history arrival) → IsAnsweredAs history arrival a.sending
@@ -145,14 +145,15 @@ sent_datagrams history (Sent frame) = map (sent_datagram history) frame
 sent_datagrams history (Wrote blocks) = map block_datagram blocks
 sent_datagrams history entry = []
 
--- of a task's datagram that came back with its expected working counter and wasn't sent again since, the data that came back
+-- the data of a task's datagram that came back with its expected working counter and was not sent again since
 abbrev pub good_part : List HistoryEntry → List Member → Named × Part → List NewAnswer
 good_part since line pair =
     if not (list_any (sends (item_of pair.0)) since) && (pair.1.counter == expected_counter pair.0.0 pair.0.1 line)
     then record { task = pair.0.0; datagram = pair.0.1; bytes = pair.1.bytes } ∷ []
     else []
 
--- the `good_part` of each datagram of a frame with the part in its place, in order, as far as both go; none of an entry that isn't a frame of tasks
+-- the `good_part` of each datagram of a frame with the part in its place, in order, as far as both go; none for an entry that
+-- is not a frame of tasks
 abbrev pub good_parts : List HistoryEntry → List Member → HistoryEntry → List Part → List NewAnswer
 good_parts since line (Sent frame) parts = flat_map (good_part since line) (zip frame parts)
 good_parts since line entry parts = []

@@ -55,16 +55,17 @@ ends serial heads (Edited edit) = true
 ends serial heads (Came arrival) = fits_sending serial heads arrival
 ends serial heads entry = false
 
--- an arrival answers a sending, which has its serial, where it fits it, and since then no edit was accepted and none that fits came
+-- an arrival answers a sending, which has its serial: it fits the sending, and since then no edit was accepted and no other
+-- arrival that fits came
 abbrev pub is_answer : Arrival → Sending → Bool
 is_answer arrival sending =
     fits_sending arrival.serial sending.heads arrival && not (list_any (ends arrival.serial sending.heads) sending.since)
 
--- `x` where it passes the test, else none
+-- `x` if it passes the test, otherwise none
 abbrev pub only_if : {X : Type 0} → (X → Bool) → X → Option X
 only_if test x = if test x then Some x else None
 
--- the sending that an arrival answers: the one with its serial, where the arrival is an answer to it; none otherwise
+-- the sending that an arrival answers: the one with its serial, if the arrival is an answer to it; otherwise none
 abbrev pub answered_by : History → Arrival → Option Sending
 answered_by history arrival = option_and_then (only_if (is_answer arrival)) (sending_of history arrival.serial)
 
@@ -106,7 +107,7 @@ pub data Verdict : Type 0 where
   Wrong : Verdict
   Stale : Verdict
 
--- the verdict is `Good`: the expected working counter came back, and the datagram isn't out of date
+-- the verdict is `Good`: the expected working counter came back, and the datagram is not out of date
 abbrev pub is_good : Verdict → Bool
 is_good Good = true
 is_good Wrong = false
@@ -138,7 +139,7 @@ judge since pair = record { head = pair.0; part = pair.1; verdict = verdict sinc
 abbrev pub judged : Arrival → Sending → List Judged
 judged arrival sending = map (judge sending.since) (zip sending.heads arrival.parts)
 
--- the datagrams of the sending that an arrival answers; none where it answers none
+-- the datagrams of the sending that an arrival answers; none if it answers none
 abbrev pub judged_by : History → Arrival → List Judged
 judged_by history arrival = option_map_or (judged arrival) (answered_by history arrival) []
 
@@ -150,6 +151,6 @@ is_current datagram = not (is_stale datagram.verdict)
 abbrev pub has_good : Judged → Bool
 has_good datagram = is_good datagram.verdict
 
--- an arrival is stale where it answers no sending, or each datagram is stale
+-- an arrival is stale if it answers no sending, or if each datagram is stale
 abbrev pub is_stale_to : History → Arrival → Bool
 is_stale_to history arrival = not (list_any is_current (judged_by history arrival))

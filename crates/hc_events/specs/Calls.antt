@@ -19,7 +19,8 @@ use Rattle.hc_events.specs.Owed.{owed_blocks}
 use Rattle.hc_events.specs.UnderWay.{further_blocks}
 use Rattle.hc_events.specs.WriteFrames.{frame_blocks, writes_size}
 
--- an event takes memory for what it answers or for what is kept after it; a post takes none, steady or not, since the room for its values was taken at the opening or by an accepted edit; forgetting a slave's registers takes none, nor does clearing or unplugging a slave
+-- an event allocates for its answer or for the state after it. A post allocates nothing, steady or not, since the memory for
+-- its values was allocated at the opening or by an accepted edit. Forgetting, clearing and unplugging a slave allocate nothing
 abbrev pub takes_memory : Step → Bool
 takes_memory (Posts task epoch bytes) = false
 takes_memory (PostsSteady task epoch bytes) = false
@@ -65,7 +66,7 @@ write_all_into_faults history bytes = write_faults history (owed_blocks history)
 abbrev pub further_into_faults : History → ℕ → List (Bool × CoreFault)
 further_into_faults history bytes = further_faults history ++ room_faults (writes_size (frame_blocks (further_blocks history))) bytes
 
--- the bytes of the frames where tasks are sent
+-- the bytes of the frames of a sending of tasks
 abbrev pub frames_size : History → List ℕ → ℕ
 frames_size history tasks = sum_by sent_frame_size (proposal history tasks)
 
@@ -92,11 +93,12 @@ pub record AreSentTogether (tasks : List ℕ) : Type 0 where
 abbrev pub are_together : List ℕ → Bool
 are_together tasks = nat_lt 0 (length tasks) && nat_le (length tasks) TASKS && not (has_repeat tasks)
 
--- the tasks, where they can be sent together; else none
+-- the tasks, if they can be sent together; otherwise none
 abbrev pub if_together : List ℕ → Option (List ℕ)
 if_together tasks = if are_together tasks then Some tasks else None
 
--- the frame of one datagram alone as it would be sent next, whether or not blocks are owed; none where the task has no such datagram or no serial is left
+-- the frame of one datagram alone as it would be sent next, even if blocks are owed; none if the task has no such datagram or
+-- no serial is left
 abbrev pub preview : History → ℕ → ℕ → Option Frame
 preview history task d =
     if nat_lt d (datagram_count (task_places task (line_of history))) && has_serials history 1

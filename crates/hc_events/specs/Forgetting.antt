@@ -25,7 +25,7 @@ abbrev pub is_of_other : ℕ → Item → Bool
 is_of_other station (Datagram task d) = false
 is_of_other station (Block other number) = not (other == station)
 
--- of what a sending carries something is another slave's block that isn't out of date
+-- a sending carries another slave's block that is not out of date
 abbrev pub carries_other : ℕ → Sending → Bool
 carries_other station sending = list_any (λ head. is_of_other station head.item && not (is_outdated head.item sending.since)) sending.heads
 

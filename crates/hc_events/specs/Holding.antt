@@ -39,7 +39,7 @@ abbrev pub held_after_answer : Bool → Option (ℕ × List ℕ) → MayHold →
 held_after_answer good write held =
     if good then record { unknown = false; contents = option_map_or (λ (found : ℕ × List ℕ). found.1 ∷ []) write [] } else held
 
--- the slave with a station address isn't in the line, and the edit brings it there
+-- the slave with a station address is not in the line, and the edit brings it there
 abbrev pub comes : History → Edit → ℕ → Bool
 comes history edit station = not (is_in_line history station) && is_in_line (Edited edit ∷ history) station
 
@@ -55,7 +55,7 @@ may_hold (Came arrival ∷ history) station number =
 may_hold (Cleared other ∷ history) station number = if station == other then cleared_register else may_hold history station number
 may_hold (entry ∷ history) station number = may_hold history station number
 
--- the slave with a station address was said to be unplugged, and hasn't been in the line since
+-- the slave with a station address was reported to be unplugged, and has not been in the line since
 abbrev pub is_unplugged : History → ℕ → Bool
 is_unplugged [] station = false
 is_unplugged (Opened groups ∷ history) station = false

@@ -18,7 +18,8 @@ image_bit line place k = 8 * datagram_offset (task_places place.task line) place
 abbrev pub is_posted : ℕ → VariablePlace → Bool
 is_posted task place = place.task == task
 
--- bit `k` of a variable after a post: its bit in the posted bytes where it has a place and this is in the posted task, else `before`
+-- bit `k` of a variable after a post: its bit in the posted bytes if it has a place and this is in the posted task, otherwise
+-- `before`
 abbrev pub posted_bit : List Member → ℕ → List ℕ → ℕ → Option VariablePlace → ℕ → ℕ
 posted_bit line task bytes k place before =
     option_map_or (λ found. if is_posted task found then bit_of bytes (image_bit line found k) else before) place before

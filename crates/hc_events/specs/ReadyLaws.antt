@@ -20,7 +20,7 @@ use Rattle.hc_events.specs.Steps.{SendsReady, SendsTasks, answer_to, edit_refuse
 use Rattle.hc_events.specs.Accepted.{IsReachable}
 use Rattle.hc_events.specs.SendingLaws.{IsFound}
 
--- a task is ready where nothing is owed and no register outside the line concerns it
+-- a task is ready if nothing is owed and no register outside the line concerns it
 abbrev pub ReadyWhereNothingIsOwed : Type 0
 ReadyWhereNothingIsOwed = (history : History) (task : ℕ) → owed_blocks history ≡ [] → waited_for_outside history task ≡ [] → is_ready history task ≡ true
 
@@ -122,10 +122,10 @@ SlavesOutsideHoldStill =
     (since : List HistoryEntry) (history : History) (station : ℕ) → IsReachable (since ++ history) → StaysPlugged station history since
     → IsHeldStill history (since ++ history) station
 
--- a task is ready exactly where no slave holds it up
+-- a task is ready exactly if no slave holds it up
 abbrev pub ReadyTasksHaveNoHolder : Type 0
 ReadyTasksHaveNoHolder = (history : History) (task : ℕ) → (is_ready history task ≡ true) ↔ (holders history task ≡ [])
 
--- bit t of tasks as a number is 1 where task t passes the test, else 0
+-- bit t of tasks as a number is 1 if task t passes the test, otherwise 0
 abbrev pub MasksSayTheirTasks : Type 0
 MasksSayTheirTasks = (test : ℕ → Bool) (task : ℕ) → task < TASKS → bit_at (mask_of test) task ≡ (if test task then 1 else 0)

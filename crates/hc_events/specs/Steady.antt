@@ -59,7 +59,7 @@ changes_task old new task =
 abbrev pub edit_changes : History → Edit → ℕ → Bool
 edit_changes history edit task = changes_task (state_of history) (state_of (Edited edit ∷ history)) task
 
--- the epoch of the last accepted edit that changed the task; 0 where none did
+-- the epoch of the last accepted edit that changed the task; 0 if none did
 abbrev pub task_epoch : History → ℕ → ℕ
 task_epoch [] task = 0
 task_epoch (Opened groups ∷ history) task = 0
@@ -74,7 +74,8 @@ pub record SteadyData : Type 0 where
   pub serial : ℕ
   pub epoch : ℕ
 
--- the data of a datagram once a good answer came in an epoch to the sending with a serial: that answer's where it is of this datagram, else those of before, if any
+-- the data of a datagram once a good answer came in an epoch to the sending with a serial: those of the answer if it is of this
+-- datagram, otherwise those of before, if any
 abbrev pub steadied : ℕ → ℕ → ℕ → ℕ → Option SteadyData → NewAnswer → Option SteadyData
 steadied serial epoch task d before good = if is_for task d good then Some (record { bytes = good.bytes; serial = serial; epoch = epoch }) else before
 

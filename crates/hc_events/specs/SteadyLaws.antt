@@ -81,7 +81,8 @@ abbrev pub SteadyPostsAreAccepted : Type 0
 SteadyPostsAreAccepted =
     (history : History) (task epoch : ℕ) (bytes : List ℕ) → (answer_to history (PostsSteady task epoch bytes) ≡ answer.Posted) ↔ IsSteadyPost history task epoch bytes
 
--- a steady post of a task is refused with 15 just where its epoch is below the one of the last edit that changed the task, or above the present one
+-- a steady post of a task is refused with `StalePost` exactly if its epoch is below the one of the last edit that changed the
+-- task, or above the present one
 abbrev pub SteadyPostsAreStale : Type 0
 SteadyPostsAreStale =
     (history : History) (task epoch : ℕ) (bytes : List ℕ) → task < TASKS
@@ -118,7 +119,7 @@ pub record IsUndisturbed (history : History) (edit : Edit) (task : ℕ) : Type 0
       → answer_to (Edited edit ∷ history) (PostsSteady task epoch bytes) ≡ answer.Posted
   pub ready : is_ready history task ≡ true → is_ready (edited_and_cleared history edit) task ≡ true
 
--- so does each accepted edit that doesn't change the task, in a project before the edit and after it
+-- each accepted edit that does not change a task leaves it undisturbed, in a project before the edit and after it
 abbrev pub UnchangedTasksAreUndisturbed : Type 0
 UnchangedTasksAreUndisturbed =
     (history : History) (edit : Edit) (task : ℕ) → IsReachable history → task < TASKS

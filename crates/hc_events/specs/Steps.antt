@@ -36,7 +36,7 @@ use Rattle.hc_events.specs.Steady.{task_epoch}
 use Rattle.hc_events.specs.UnderWay.{further_blocks}
 use Rattle.hc_events.specs.WriteFrames.{frame_blocks, writes_text}
 
--- an event, without where it lies in memory
+-- an event, without its place in memory
 pub data Step : Type 0 where
   Edits : Edit → Step
   Posts : ℕ → ℕ → List ℕ → Step
@@ -57,14 +57,14 @@ abbrev pub unless : Option CoreFault → Answer → Answer
 unless None answer_given = answer_given
 unless (Some fault) answer_given = answer.Refused fault
 
--- the record `history` where there is a fault, else `next`
+-- the record `history` if there is a fault, otherwise `next`
 abbrev pub unless_fault : Option CoreFault → History → History → History
 unless_fault None history next = next
 unless_fault (Some fault) history next = history
 
 -- an edit
 
--- the lowest fault of the edit in the record's state, as the core's fault; none where the state accepts it
+-- the lowest fault of the edit in the record's state, as the core's fault; none if the state accepts it
 abbrev pub edit_refused : History → Edit → Option CoreFault
 edit_refused history edit = option_map edit_refusal (lowest (edit_faults (state_of history) edit))
 
@@ -102,7 +102,7 @@ post_steady_faults history task epoch bytes =
     ∷ (not (length bytes == output_length (task_places task (line_of history))), PostLength)
     ∷ []
 
--- a sending of tasks: one frame or more, or none where the tasks have no datagram
+-- a sending of tasks: one frame or more, or none if the tasks have no datagram
 
 -- from a serial on so many are left: sendings have those below the one of alias reads and station writes
 abbrev pub serials_left : ℕ → ℕ → Bool
@@ -112,7 +112,8 @@ serials_left serial sendings = not (nat_lt SETUP_SERIAL (serial + sendings))
 abbrev pub has_serials : History → ℕ → Bool
 has_serials history sendings = serials_left (next_serial history) sendings
 
--- the frames where the tasks would be sent next, in the given order, from the next serial on, whether or not that is refused; none where they have no datagram
+-- the frames in which the tasks would be sent next, in the given order, from the next serial on, even if the sending is
+-- refused; none if they have no datagram
 abbrev pub proposal : History → List ℕ → List Frame
 proposal history tasks = sendings_of (line_of history) (next_serial history) tasks
 
@@ -164,30 +165,33 @@ write_faults history blocks = (length blocks == 0, NothingOwed) ∷ (not (has_se
 abbrev pub write_text : ℕ → LineBlock → List ℕ
 write_text serial block = frame_text serial (block_write block.station block.block.register block.block.bytes ∷ [])
 
--- the answer to a register write where these blocks are owed: the frame of the first one, with this serial; refusal 18 where there are none
+-- the answer to a register write if these blocks are owed: the frame of the first one, with this serial; the refusal
+-- `NothingOwed` if there are none
 abbrev pub sent_write_answer : ℕ → List LineBlock → Answer
 sent_write_answer serial [] = answer.Refused NothingOwed
 sent_write_answer serial (block ∷ blocks) = answer.WriteSent (write_text serial block)
 
--- the record with the write of the first of these blocks as its newest entry; as it was where there are none
+-- the record with the write of the first of these blocks as its newest entry; unchanged if there are none
 abbrev pub with_write : History → List LineBlock → History
 with_write history [] = history
 with_write history (block ∷ blocks) = Wrote (block ∷ []) ∷ history
 
 -- a frame of register writes: the first owed blocks, as many as it holds (`frame_blocks`); refused as a register write is
 
--- the answer to the writes of these blocks in one frame with this serial: one block is answered as its write alone is; refusal 18 where there are none
+-- the answer to the writes of these blocks in one frame with this serial: one block is answered as its write alone is; the
+-- refusal `NothingOwed` if there are none
 abbrev pub writes_answer : ℕ → List LineBlock → Answer
 writes_answer serial [] = answer.Refused NothingOwed
 writes_answer serial (block ∷ []) = answer.WriteSent (write_text serial block)
 writes_answer serial (block ∷ next ∷ blocks) = answer.WritesSent (writes_text serial (block ∷ next ∷ blocks))
 
--- the record with the frame that writes these blocks as its newest entry; as it was where there are none
+-- the record with the frame that writes these blocks as its newest entry; unchanged if there are none
 abbrev pub with_writes : History → List LineBlock → History
 with_writes history [] = history
 with_writes history (block ∷ blocks) = Wrote (block ∷ blocks) ∷ history
 
--- a further frame of register writes: the first owed blocks that aren't under way, as many as it holds; it is answered as a frame of the first owed blocks is
+-- a further frame of register writes: the first owed blocks that are not under way, as many as it holds; it is answered as a
+-- frame of the first owed blocks is
 
 -- the faults of a further frame, in order: `NothingOwed` if nothing is owed; `UnderWay` if each owed block is under way;
 -- `SerialsSpent` if no serial is left
@@ -198,7 +202,8 @@ further_faults history =
     ∷ (not (has_serials history 1), SerialsSpent)
     ∷ []
 
--- an arrival: what it is for each datagram of the tasks, or for each register write; stale where it answers no sending or each datagram is stale
+-- an arrival: the outcome of each datagram of the tasks, or of each register write; stale if it answers no sending or each
+-- datagram is stale
 
 -- the outcome of a good datagram: the inputs of a task's datagram, or that a register block's write is done
 abbrev pub inputs_of : Item → Outcome
@@ -223,32 +228,36 @@ outcome_of head part Stale = outcome.Stale
 abbrev pub outcome_for : Judged → Outcome
 outcome_for datagram = outcome_of datagram.head datagram.part datagram.verdict
 
--- the answer to an arrival that answers a write of one register block: `WriteDone` where it is good, `WriteMissed` where it is wrong, `Stale` where it is stale
+-- the answer to an arrival that answers a write of one register block: `WriteDone` if it is good, `WriteMissed` if it is wrong,
+-- `Stale` if it is stale
 abbrev pub write_answer : Verdict → Answer
 write_answer Good = answer.WriteDone
 write_answer Wrong = answer.WriteMissed
 write_answer Stale = answer.Stale
 
--- the answer to an arrival that answers a frame of register writes, by its judged datagrams: of one block by its verdict (`write_answer`), of several `Written` with what each is; `Stale` where all are stale or there is none
+-- the answer to an arrival that answers a frame of register writes, by its judged datagrams: for one block by its verdict
+-- (`write_answer`), for several `Written` with the outcome of each; `Stale` if all are stale or there is none
 abbrev pub judged_blocks_answer : List Judged → Answer
 judged_blocks_answer [] = answer.Stale
 judged_blocks_answer (datagram ∷ []) = write_answer datagram.verdict
 judged_blocks_answer (datagram ∷ next ∷ datagrams) =
     if list_any is_current (datagram ∷ next ∷ datagrams) then answer.Written (map outcome_for (datagram ∷ next ∷ datagrams)) else answer.Stale
 
--- the answer to an arrival by its judged datagrams: where the first one is a register block as all of them are (`judged_blocks_answer`), else `Answered` with what each is; `Stale` where all are stale or there is none
+-- the answer to an arrival by its judged datagrams: if the first one is a register block, that of register writes
+-- (`judged_blocks_answer`), otherwise `Answered` with the outcome of each; `Stale` if all are stale or there is none
 abbrev pub judged_answer : List Judged → Answer
 judged_answer [] = answer.Stale
 judged_answer (datagram ∷ datagrams) =
     if is_block datagram.head.item then judged_blocks_answer (datagram ∷ datagrams)
     else (if list_any is_current (datagram ∷ datagrams) then answer.Answered (map outcome_for (datagram ∷ datagrams)) else answer.Stale)
 
--- the answer to an arrival as it was read: the refusal with the fault for which it can't be read, else what is said of the datagrams that it answers (`judged_by`)
+-- the answer to an arrival as it was read: the refusal with the fault why it cannot be read, otherwise the answer by the
+-- datagrams that it answers (`judged_by`)
 abbrev pub arrival_answer : History → Result Arrival FrameFault → Answer
 arrival_answer history (Err fault) = answer.Refused (frame_refusal fault)
 arrival_answer history (Ok arrival) = judged_answer (judged_by history arrival)
 
--- the record with the arrival as its newest entry; as it was where the arrival couldn't be read
+-- the record with the arrival as its newest entry; unchanged if the arrival could not be read
 abbrev pub with_arrival : History → Result Arrival FrameFault → History
 with_arrival history (Err fault) = history
 with_arrival history (Ok arrival) = Came arrival ∷ history

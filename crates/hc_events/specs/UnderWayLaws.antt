@@ -34,7 +34,8 @@ pub record IsLeftAwaited (history : History) (entry : HistoryEntry) (serial : �
   pub there : awaited (entry ∷ history) serial ≡ Some (followed_by entry sending)
   pub judged : (item : Item) → CarriesItem item sending → is_outdated item (entry ∷ sending.since) ≡ is_outdated item sending.since
 
--- so it is with each frame that is awaited, of tasks or of register writes, where a further frame is sent and no slave was forgotten since
+-- `IsLeftAwaited` holds for each frame that is awaited, of tasks or of register writes, if a further frame is sent and no slave
+-- was forgotten since
 abbrev pub FurtherLeavesAwaited : Type 0
 FurtherLeavesAwaited =
     (history : History) (serial : ℕ) (sending : Sending) → awaited history serial ≡ Some sending → list_any is_forgetting sending.since ≡ false
@@ -50,7 +51,7 @@ OlderAnswersLeaveKnown =
 abbrev pub UnderWayIsOwed : Type 0
 UnderWayIsOwed = (history : History) (block : LineBlock) → is_under_way history block.station block.number ≡ true → is_owed history block ≡ true
 
--- a block of the line whose own datagram came back good isn't owed any more, whatever else is under way
+-- a block of the line whose own datagram came back good is no longer owed, whatever else is under way
 abbrev pub GoodAnswersEndOwing : Type 0
 GoodAnswersEndOwing =
     (history : History) (arrival : Arrival) (block : LineBlock) → IsReachable history → HasOwnNames (line_of history) → Contains (line_blocks (line_of history)) block

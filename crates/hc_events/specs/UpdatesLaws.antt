@@ -27,7 +27,8 @@ pub record Grows (old new : List Update) : Type 0 where
 abbrev pub UpdatesOnlyGrow : Type 0
 UpdatesOnlyGrow = (history : History) (steps : List Step) → Grows (updates_of history) (updates_of (entries_after_all history steps))
 
--- a datagram of an arrival, good when it came: the arrival answered a sending with this datagram, which wasn't sent again since, and it came back with the expected working counter and these data
+-- a datagram of an arrival, good when it came: the arrival answered a sending with this datagram, which was not sent again
+-- since, and it came back with the expected working counter and these data
 pub record IsGoodAnswer (history : History) (good : NewAnswer) : Type 0 where
   pub since : List HistoryEntry
   pub arrival : Arrival

@@ -15,7 +15,7 @@ use Rattle.hc_events.specs.Steps.{Reads, answer_to}
 use Rattle.hc_events.specs.Accepted.{IsReachable}
 use Rattle.hc_events.specs.UpdatesLaws.{state_after_changes}
 
--- after two lists of changes in a row is what the second leads to from where the first one leads
+-- two lists of changes in a row lead to the same as the second from the table and the data that the first one leads to
 pub record LeadsOn (first second : List Change) : Type 0 where
   pub table : (table : Table) → table_after table (first ++ second) ≡ table_after (table_after table first) second
   pub epoch : (epoch : ℕ) → epoch_after epoch (first ++ second) ≡ epoch_after (epoch_after epoch first) second
@@ -26,7 +26,7 @@ pub record LeadsOn (first second : List Change) : Type 0 where
 abbrev pub ChangesLeadOn : Type 0
 ChangesLeadOn = (first second : List Change) → LeadsOn first second
 
--- two lists in a row are legal just where the first is, and the second from the state after it
+-- two lists in a row are legal exactly if the first is, and the second from the state after it
 abbrev pub LegalJoins : Type 0
 LegalJoins =
     (state : State) (first second : List Change)

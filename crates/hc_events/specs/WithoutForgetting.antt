@@ -50,7 +50,7 @@ sending_of (Wrote (block ∷ blocks) ∷ history) serial =
     else option_map (followed_by (Wrote (block ∷ blocks))) (sending_of history serial)
 sending_of (entry ∷ history) serial = option_map (followed_by entry) (sending_of history serial)
 
--- the sending that an arrival answers: the one with its serial, where the arrival is an answer to it; none otherwise
+-- the sending that an arrival answers: the one with its serial, if the arrival is an answer to it; otherwise none
 abbrev pub answered_by : History → Arrival → Option Sending
 answered_by history arrival = option_and_then (only_if (is_answer arrival)) (sending_of history arrival.serial)
 
@@ -68,7 +68,7 @@ judge since pair = record { head = pair.0; part = pair.1; verdict = verdict sinc
 abbrev pub judged : Arrival → Sending → List Judged
 judged arrival sending = map (judge sending.since) (zip sending.heads arrival.parts)
 
--- the datagrams of the sending that an arrival answers; none where it answers none
+-- the datagrams of the sending that an arrival answers; none if it answers none
 abbrev pub judged_by : History → Arrival → List Judged
 judged_by history arrival = option_map_or (judged arrival) (answered_by history arrival) []
 
@@ -141,11 +141,11 @@ was_confirmed (entry ∷ history) serial = was_confirmed history serial
 abbrev pub if_confirmed : History → ℕ × List ℕ → Option (List ℕ)
 if_confirmed history write = if was_confirmed history write.0 then Some write.1 else None
 
--- the bytes that a slave is known to have in a block: those of its last write, where that had a good answer
+-- the bytes that a slave is known to have in a block: those of its last write, if that had a good answer
 abbrev pub known_bytes : History → ℕ → ℕ → Option (List ℕ)
 known_bytes history station number = option_and_then (if_confirmed history) (last_write history station number)
 
--- a block is owed where its known bytes aren't those that the line configures, or there are none
+-- a block is owed if its known bytes are not those that the line configures, or if there are none
 abbrev pub is_owed : History → LineBlock → Bool
 is_owed history block = not (option_map_or (bytes_eq block.block.bytes) (known_bytes history block.station block.number) false)
 

@@ -14,7 +14,8 @@ use Rattle.hc_events.specs.Points.{line_of}
 use Rattle.hc_events.specs.Steps.{SendsWrites, entries_after, write_faults}
 use Rattle.hc_events.specs.WriteFrames.{frame_blocks}
 
--- an arrival where a block's datagram is good makes the bytes of the block's last write known; of any other block the same is known as before
+-- an arrival with a good datagram of a block makes the bytes of the block's last write known; the known bytes of any other
+-- block stay
 abbrev pub GoodAnswersMakeKnown : Type 0
 GoodAnswersMakeKnown =
     (history : History) (arrival : Arrival) (station number : ℕ)
@@ -48,11 +49,11 @@ pub record Round : Type 0 where
   pub since : List HistoryEntry
   pub arrival : Arrival
 
--- the record where the frame is sent
+-- the record at the sending of the frame
 abbrev pub sent_at : History → Round → History
 sent_at history round = round.before ++ history
 
--- the record where its answer comes
+-- the record at the arrival of the answer
 abbrev pub answered_at : History → Round → History
 answered_at history round = round.since ++ entries_after (sent_at history round) SendsWrites
 
@@ -89,7 +90,8 @@ carried_blocks history (round ∷ rounds) = frame_blocks (owed_blocks (sent_at h
 abbrev pub is_carried : List LineBlock → LineBlock → Bool
 is_carried blocks block = sends (block_item block) (Wrote blocks)
 
--- after the frames and their answers the blocks are owed that none of the frames carried; where they carried all that was owed nothing is
+-- after the frames and their answers the blocks are owed that none of the frames carried; if they carried all owed blocks,
+-- nothing is owed
 pub record AreKnown (history : History) (rounds : List Round) : Type 0 where
   pub owed : owed_blocks (after_all_done history rounds) ≡ filter (λ block. not (is_carried (carried_blocks history rounds) block)) (owed_blocks history)
   pub nothing : All (λ block. is_carried (carried_blocks history rounds) block ≡ true) (owed_blocks history) → owed_blocks (after_all_done history rounds) ≡ []

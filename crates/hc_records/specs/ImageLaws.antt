@@ -9,13 +9,14 @@ use Rattle.hc_records.specs.Image.{VariablePlace, datagram_count, datagram_lengt
 use Rattle.hc_records.specs.Project.{lowest_fault}
 use Rattle.hc_records.specs.Laws.{IsPackable}
 
--- the datagrams lie end to end: the first begins the image, each next one begins where the one before it ends, and where the last one ends the outputs and the inputs end
+-- the datagrams lie end to end: the first begins the image, each next one begins at the end of the one before it, and the end
+-- of the last one is the end of the outputs and the inputs
 pub record TilesImage (areas : List Placed) : Type 0 where
   pub first : datagram_offset areas 0 ≡ 0
   pub next : (datagram : ℕ) → datagram_offset areas (datagram + 1) ≡ datagram_offset areas datagram + datagram_length areas datagram
   pub last : datagram_offset areas (datagram_count areas) ≡ output_length areas + input_length areas
 
--- so do the datagrams of any list of areas that is packed
+-- `TilesImage` holds for the datagrams of any list of areas that is packed
 abbrev pub DatagramsTileTheImage : Type 0
 DatagramsTileTheImage = (list : List Keyed) → TilesImage (packed opening list)
 
@@ -40,18 +41,18 @@ VariablesLieInDatagrams =
     → lowest_fault (groups_of state.groups) ≡ None → variable_place variable (line state) ≡ Some place
     → LiesInDatagram (line state) place
 
--- of two places in one datagram, one ends at or before the bit where the other begins
+-- two places in one datagram share no bit: one ends at or before the first bit of the other
 abbrev pub SharesNoBit : VariablePlace → VariablePlace → Type 0
 SharesNoBit a b =
     a.task ≡ b.task → a.datagram ≡ b.datagram → (a.bit + a.bits ≤ b.bit) ⊎ (b.bit + b.bits ≤ a.bit)
 
--- so do those of two variables of a line
+-- `SharesNoBit` holds for the places of two variables of a line
 abbrev pub VariablesShareNoBit : Type 0
 VariablesShareNoBit =
     (line : List Member) (variable other : ℕ) (place another : VariablePlace) → variable ≢ other
     → variable_place variable line ≡ Some place → variable_place other line ≡ Some another → SharesNoBit place another
 
--- the bit of its task's image where a place begins
+-- the first bit of a place in its task's image
 abbrev pub place_bit : List Member → VariablePlace → ℕ
 place_bit line place = 8 * datagram_offset (task_places place.task line) place.datagram + place.bit
 

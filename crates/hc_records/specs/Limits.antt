@@ -47,7 +47,8 @@ pub record Reaches (area : Area) (byte : ℕ) : Type 0 where
 abbrev pub KeepApart : Area → Area → Type 0
 KeepApart a b = (byte : ℕ) → Reaches a byte → ¬ (Reaches b byte)
 
--- a slave is within its limits: a station address that isn't 0, at most 8 areas, each within its own limits, with sync managers and memory of their own
+-- a slave is within its limits: a station address other than 0, at most 8 areas, each within its own limits, with sync managers
+-- and memory of their own
 pub record IsSlaveInside (slave : Slave) : Type 0 where
   pub station : 1 ≤ slave.station
   pub few : length slave.areas ≤ MOST_AREAS

@@ -17,7 +17,7 @@ pub record Front : Type 0 where
 abbrev pub opening : Front
 opening = record { datagram = 0; bit = 0; last = Out }
 
--- an area, its width, and the datagram and the bit where it begins
+-- an area, its width, its datagram, and its first bit there
 pub record Placed : Type 0 where
   pub key : Key
   pub bits : ℕ
@@ -36,7 +36,7 @@ beginning front area = if nat_le 8 area.1 || is_turn front.last area.0.dir then 
 abbrev pub fits : Front → Keyed → Bool
 fits front area = nat_le (beginning front area + area.1) MOST_AREA_BITS
 
--- where an area is: in the datagram being filled where it fits, else at bit 0 of a new one
+-- the place of an area: in the datagram being filled if it fits, otherwise at bit 0 of a new one
 abbrev pub placed_at : Front → Keyed → Placed
 placed_at front area =
     if fits front area

@@ -30,7 +30,7 @@ StationsAreDistinct =
 abbrev pub HoldsItsWidth : Area → Type 0
 HoldsItsWidth area = width area ≤ 8 * reach area
 
--- so do those of each area of a project
+-- `HoldsItsWidth` holds for each area of a project
 abbrev pub ReachesHoldWidths : Type 0
 ReachesHoldWidths =
     (groups : List Group) → lowest_fault groups ≡ None → All (λ slave. All HoldsItsWidth slave.areas) (slaves_of groups)
@@ -45,7 +45,7 @@ pub record KeepsAreasApart (slave : Slave) : Type 0 where
   pub inside : All (λ area. (byte : ℕ) → Reaches area byte → IsProcessByte byte) slave.areas
   pub apart : AllPairs KeepApart slave.areas
 
--- so do those of each slave of a project
+-- `KeepsAreasApart` holds for each slave of a project
 abbrev pub ReachesShareNoByte : Type 0
 ReachesShareNoByte = (groups : List Group) → lowest_fault groups ≡ None → All KeepsAreasApart (slaves_of groups)
 

@@ -23,7 +23,7 @@ ProjectsHaveTaskLists =
     (state : State) (task : ℕ) → lowest_fault (groups_of state.groups) ≡ None
     → IsTaskList (task_list task (line state))
 
--- an area of a span: its key is the span's first one or a later one, and before the one where the next span begins
+-- an area of a span: its key is the span's first one or a later one, and before the first one of the next span
 abbrev pub lies_in : Interval → Placed → Bool
 lies_in span area = is_within span.0 area.key && is_before area.key span.1
 
@@ -38,7 +38,7 @@ SpansAreDatagrams =
 abbrev pub seen_area : Placed → Key × (ℕ × ℕ)
 seen_area area = (area.key, (area.bits, area.bit))
 
--- what the datagram of a span carries: the areas of the span, each at its first bit
+-- the areas of a span, each at its first bit in the span's datagram
 abbrev pub span_areas : List Keyed → Interval → List (Key × (ℕ × ℕ))
 span_areas list span = map seen_area (filter (lies_in span) (packed opening list))
 
@@ -53,7 +53,7 @@ SettledSpansStay =
     (old new : List Keyed) (span : Interval) → IsTaskList old → IsTaskList new
     → Contains (spans (boundaries new)) span → is_settled old new span ≡ true → CarriesTheSame old new span
 
--- the key of the first area that doesn't fit, where a datagram is being filled; END where all fit
+-- the key of the first area that does not fit a datagram being filled; END if all fit
 abbrev pub next_cut : Front → List Keyed → Key
 next_cut front [] = END
 next_cut front (area ∷ areas) = if fits front area then next_cut (front_with (placed_at front area)) areas else area.0
@@ -68,12 +68,13 @@ places_in_span front (area ∷ areas) =
 abbrev pub areas_from : Key → List Keyed → List Keyed
 areas_from key list = filter (λ area. is_within key area.0) list
 
--- the span that begins at a boundary ends where the areas from there on, packed alone, are cut first; its datagram carries those
+-- a span is cut alone: it ends at the first area that does not fit if the areas from its first key on are packed alone, and its
+-- datagram carries the areas before
 pub record IsCutAlone (list : List Keyed) (span : Interval) : Type 0 where
   pub next : span.1 ≡ next_cut opening (areas_from span.0 list)
   pub areas : span_areas list span ≡ map seen_area (places_in_span opening (areas_from span.0 list))
 
--- so it is with every span of a task's list
+-- `IsCutAlone` holds for every span of a task's list
 abbrev pub SpansAreCutAlone : Type 0
 SpansAreCutAlone =
     (list : List Keyed) (span : Interval) → IsTaskList list → Contains (spans (boundaries list)) span → IsCutAlone list span
