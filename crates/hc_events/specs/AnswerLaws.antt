@@ -97,7 +97,9 @@ pub record IsBesideOne (older newer : Sending) : Type 0 where
   pub one : length newer.heads ≡ 1
   pub more : 1 < length older.heads
 
--- so it is with any two that are awaited and carry the first owed blocks, whatever further frames were sent beside them: each later frame of several blocks carries all that is awaited of such a frame, and so does a single write where a single write is. So at most two of them are awaited, no two of them of several blocks
+-- `IsBesideOne` holds for any two awaited frames that carry the first owed blocks, whatever further frames were sent beside
+-- them. A later frame of several blocks carries all awaited blocks of an earlier one, and so does a single write after a single
+-- write. At most two such frames are awaited, and no two of them have several blocks
 abbrev pub TwoWritesAreAwaited : Type 0
 TwoWritesAreAwaited =
     (history : History) (low high : ℕ) (older newer : Sending) → IsReachable history → HasOwnNames (line_of history) → carries_first history low → carries_first history high → low < high

@@ -116,7 +116,7 @@ pub record IsHeldStill (before after : History) (station : ℕ) : Type 0 where
   pub contents : (number : ℕ) → (may_hold after station number).contents ≡ (may_hold before station number).contents
   pub unplugged : is_unplugged after station ≡ is_unplugged before station
 
--- so it is as long as the slave stays outside the line, and is neither cleared nor unplugged
+-- `IsHeldStill` holds as long as the slave stays outside the line, and is neither cleared nor unplugged
 abbrev pub SlavesOutsideHoldStill : Type 0
 SlavesOutsideHoldStill =
     (since : List HistoryEntry) (history : History) (station : ℕ) → IsReachable (since ++ history) → StaysPlugged station history since

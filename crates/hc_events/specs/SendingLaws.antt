@@ -84,7 +84,7 @@ pub record AreSent (history : History) (tasks : List ℕ) : Type 0 where
 abbrev pub SentFramesAreFound : Type 0
 SentFramesAreFound = (history : History) (tasks : List ℕ) → IsNone (lowest (task_faults history tasks)) → AreSent history tasks
 
--- and an accepted write writes the first owed block, with the serial that was next
+-- an accepted write writes the first owed block, with the serial that was next
 pub record BlockIsWritten (history : History) : Type 0 where
   pub block : LineBlock
   pub rest : List LineBlock
@@ -112,7 +112,7 @@ ProposalsCarryTheTasks =
     (history : History) (tasks : List ℕ)
     → flat_map (λ (frame : Frame). frame.datagrams) (proposal history tasks) ≡ flat_map (task_datagrams (line_of history)) tasks
 
--- and each frame has as many bytes as its text
+-- each frame of a proposal has as many bytes as its text
 abbrev pub FramesHaveTheirSizes : Type 0
 FramesHaveTheirSizes =
     (history : History) (tasks : List ℕ) → All (λ (frame : Frame). length (sent_text history frame) ≡ sent_frame_size frame) (proposal history tasks)

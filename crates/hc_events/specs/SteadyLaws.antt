@@ -52,7 +52,7 @@ pub record AreSteady (history : History) (task d : ℕ) (bytes : List ℕ) : Typ
 abbrev pub SlotsAreSteady : Type 0
 SlotsAreSteady = (history : History) (task d : ℕ) (bytes : List ℕ) → slot_of history task d ≡ Some bytes → AreSteady history task d bytes
 
--- and steady data whose answer came in the present epoch are those that the task reads
+-- steady data whose answer came in the present epoch are those that the task reads
 abbrev pub SteadyDataOfTheEpochAreSlots : Type 0
 SteadyDataOfTheEpochAreSlots =
     (history : History) (task d : ℕ) (found : SteadyData) → steady_data history task d ≡ Some found → found.epoch ≡ epoch_of history

@@ -99,7 +99,7 @@ pub record LeadsToHistory (groups : List Group) (history : History) (changes : L
   pub epoch : epoch_after 0 changes ≡ epoch_of history
   pub slots : (task d : ℕ) → slot_after task d None changes ≡ slot_of history task d
 
--- so does each legal list that gives the record's edits and answers, however its swaps come to the next places
+-- `LeadsToHistory` holds for each legal list with the record's edits and answers, however its swaps come to the next places
 abbrev pub ChangesShowAll : Type 0
 ChangesShowAll =
     (history : History) (changes : List Change) → IsReachable history → AreLegal (opened_with history) changes
@@ -111,7 +111,7 @@ pub record LeadToTheSame (groups : List Group) (first second : List Change) : Ty
   pub epoch : epoch_after 0 first ≡ epoch_after 0 second
   pub slots : (task d : ℕ) → slot_after task d None first ≡ slot_after task d None second
 
--- so do two legal ones of a project that name the same edits and the same answers
+-- `LeadToTheSame` holds for two legal lists of a project that name the same edits and the same answers
 abbrev pub LegalChangesAgree : Type 0
 LegalChangesAgree =
     (groups : List Group) (first second : List Change) → AreLegal groups first → AreLegal groups second

@@ -28,8 +28,9 @@ GoodAnswersMakeKnown =
 abbrev pub confirms_block : Judged → Bool
 confirms_block datagram = is_block datagram.head.item && has_good datagram
 
--- an entry that comes after a record leaves what is known of register blocks: it is no edit, no register write and no forgotten slave, and where it is an arrival it confirms no register block. So it is with
--- posts, frames of tasks, and arrivals that are stale or that answer frames of tasks; a read is no entry
+-- an entry after a record leaves the knowledge of register blocks: it is no edit, no register write and no forgotten slave, and
+-- if it is an arrival it confirms no register block. Such are posts, frames of tasks, and arrivals that are stale or that
+-- answer frames of tasks; a read is no entry
 abbrev pub leaves_known : History → HistoryEntry → Bool
 leaves_known history (Opened groups) = false
 leaves_known history (Edited edit) = false
@@ -96,6 +97,7 @@ pub record AreKnown (history : History) (rounds : List Round) : Type 0 where
   pub owed : owed_blocks (after_all_done history rounds) ≡ filter (λ block. not (is_carried (carried_blocks history rounds) block)) (owed_blocks history)
   pub nothing : All (λ block. is_carried (carried_blocks history rounds) block ≡ true) (owed_blocks history) → owed_blocks (after_all_done history rounds) ≡ []
 
--- so it is in a project's line, whatever posts, reads, frames of tasks and arrivals that confirm no register block came in between
+-- `AreKnown` holds in a project's line, whatever posts, reads, frames of tasks and arrivals that confirm no register block came
+-- in between
 abbrev pub DoneWritesAreKnown : Type 0
 DoneWritesAreKnown = (history : History) (rounds : List Round) → HasOwnNames (line_of history) → AreDone history rounds → AreKnown history rounds

@@ -34,7 +34,7 @@ pub record LiesInDatagram (line : List Member) (place : VariablePlace) : Type 0 
   pub most : place.bits ≤ MOST_ENTRY_BITS
   pub within : place.bit + place.bits ≤ 8 * datagram_length (task_places place.task line) place.datagram
 
--- so are the places of all variables of the line of a project
+-- `LiesInDatagram` holds for the places of all variables of the line of a project
 abbrev pub VariablesLieInDatagrams : Type 0
 VariablesLieInDatagrams =
     (state : State) (variable : ℕ) (place : VariablePlace)
@@ -61,7 +61,7 @@ pub record IsInItsPart (line : List Member) (place : VariablePlace) : Type 0 whe
   pub output : place.dir ≡ Out → place_bit line place + place.bits ≤ 8 * output_length (task_places place.task line)
   pub input : place.dir ≡ In → 8 * output_length (task_places place.task line) ≤ place_bit line place
 
--- so does every variable of a line
+-- `IsInItsPart` holds for every variable of a line
 abbrev pub VariablesAreInTheirParts : Type 0
 VariablesAreInTheirParts =
     (state : State) (variable : ℕ) (place : VariablePlace) → variable_place variable (line state) ≡ Some place

@@ -32,7 +32,7 @@ PlacesKeepTheList = (front : Front) (list : List Keyed) → map (λ area. (area.
 abbrev pub LiesInside : Placed → Type 0
 LiesInside area = area.bit + area.bits ≤ MOST_AREA_BITS
 
--- so does each area of a list that is packed
+-- `LiesInside` holds for each area of a list that is packed
 abbrev pub AreasLieInside : Type 0
 AreasLieInside = (list : List Keyed) → All IsPackable list → All LiesInside (packed opening list)
 
@@ -40,7 +40,7 @@ AreasLieInside = (list : List Keyed) → All IsPackable list → All LiesInside 
 abbrev pub BeginsByte : Placed → Type 0
 BeginsByte area = 8 ≤ area.bits → area.bit % 8 ≡ 0
 
--- so does each such area of a list that is packed
+-- `BeginsByte` holds for each area of a list that is packed
 abbrev pub WideAreasBeginBytes : Type 0
 WideAreasBeginBytes = (list : List Keyed) → All BeginsByte (packed opening list)
 
@@ -49,7 +49,7 @@ pub record IsDatagramLength (bytes : ℕ) : Type 0 where
   pub some : 1 ≤ bytes
   pub most : bytes ≤ MOST_DATAGRAM_BYTES
 
--- so has each datagram of a list that is packed
+-- `IsDatagramLength` holds for each datagram of a list that is packed
 abbrev pub DatagramsAreSendable : Type 0
 DatagramsAreSendable =
     (list : List Keyed) (datagram : ℕ) → All IsPackable list → datagram < datagram_count (packed opening list)

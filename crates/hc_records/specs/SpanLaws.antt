@@ -17,7 +17,7 @@ pub record IsTaskList (list : List Keyed) : Type 0 where
   pub ascends : Ascends list
   pub between : LiesBetween list
 
--- the list of each task of each line of a project is one
+-- `IsTaskList` holds for the list of each task of each line of a project
 abbrev pub ProjectsHaveTaskLists : Type 0
 ProjectsHaveTaskLists =
     (state : State) (task : ℕ) → lowest_fault (groups_of state.groups) ≡ None
@@ -47,7 +47,7 @@ pub record CarriesTheSame (old new : List Keyed) (span : Interval) : Type 0 wher
   pub was_span : Contains (spans (boundaries old)) span
   pub areas : span_areas new span ≡ span_areas old span
 
--- so it is with every settled span of two lists of a task
+-- `CarriesTheSame` holds for every settled span of two lists of a task
 abbrev pub SettledSpansStay : Type 0
 SettledSpansStay =
     (old new : List Keyed) (span : Interval) → IsTaskList old → IsTaskList new
@@ -58,7 +58,7 @@ abbrev pub next_cut : Front → List Keyed → Key
 next_cut front [] = END
 next_cut front (area ∷ areas) = if fits front area then next_cut (front_with (placed_at front area)) areas else area.0
 
--- the areas up to there, with their places
+-- the areas up to the first one that does not fit, with their places
 abbrev pub places_in_span : Front → List Keyed → List Placed
 places_in_span front [] = []
 places_in_span front (area ∷ areas) =
