@@ -57,7 +57,7 @@ frame_few history (block ∷ blocks) same = write-few history (block ∷ blocks)
 pub first-all : (history : History) → first_blocks FRAME_BLOCKS history ≡ frame_blocks (owed_blocks history)
 first-all history = take_all FRAME_BLOCKS (frame_blocks (owed_blocks history)) (frame_few history (frame_blocks (owed_blocks history)) refl)
 
--- they can be sent where the event isn't refused
+-- the first owed blocks can be sent if the event is not refused
 
 pub some-owed : (history : History) → lowest (write_faults history (owed_blocks history)) ≡ None → 0 < length (owed_blocks history)
 some-owed history none = owes (owed_blocks history) none

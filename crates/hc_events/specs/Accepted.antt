@@ -48,7 +48,8 @@ pub record IsFirst (block : LineBlock) (blocks : List LineBlock) : Type 0 where
 abbrev pub IsFirstWrite : List LineBlock → List LineBlock → Type 0
 IsFirstWrite owed blocks = (blocks ≡ take 1 owed) ⊎ (blocks ≡ frame_blocks owed)
 
--- register blocks that one frame writes: the first of the owed ones, one or more, or the first ones that aren't under way, as many as one frame holds
+-- register blocks that one frame writes: the first of the owed ones, one or more, or the first ones that are not under way, as
+-- many as one frame holds
 pub record IsWrite (history : History) (blocks : List LineBlock) : Type 0 where
   pub some : 0 < length blocks
   pub first : IsFirstWrite (owed_blocks history) blocks ⊎ (blocks ≡ frame_blocks (further_blocks history))

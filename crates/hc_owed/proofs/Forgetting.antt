@@ -71,7 +71,7 @@ module _ (station : ℕ) (register_state : RegisterState) where
   owed-above zero i high = refl
   owed-above (suc n) i high = owed-above_if (place_is_of station (below n).stations n) n i (omega (arith, high)) (owed-above n i (omega (arith, high)))
 
-  -- the others are forgotten where they are of the slave
+  -- the other places are forgotten if they are of the slave
 
   abbrev left : Bool → Option (List ℕ) → Option (List ℕ)
   left own known = cond own None known
@@ -126,7 +126,7 @@ module _ (station : ℕ) (register_state : RegisterState) where
   owed-at zero i known owed low at is = absurd (omega (arith, low))
   owed-at (suc n) i known owed low at is = owed-step n i known owed (n == i) refl (omega (arith, low)) at is (λ less. owed-at n i known owed less at is)
 
--- so all places are right
+-- all places are right
 
 owed-then : (bytes : List ℕ) (known : Option (List ℕ)) → (differs bytes known || is_some known) ≡ true
 owed-then bytes None = refl

@@ -73,7 +73,7 @@ block-station state n p slave block area half is =
     let one : Some own.slave ≡ Some slave = sym own.area ∙ ap (area_slave state) half ∙ area in
     sym own.station ∙ ap (λ (s : Slave). s.station) (same_Some own.slave slave one)
 
--- where the slave of an area is outside the line, the line has no block of the area
+-- if the slave of an area is outside the line, the line has no block of the area
 pub out-of-line : (state : State) (n : ℕ) (slave : Slave) → area_slave state n ≡ Some slave → is_some (slave_at state slave.station) ≡ false → is_some (slot state (2 * n + 1)) ≡ false
 out-of-line state n slave area outside = by (slot state (2 * n + 1)) refl
   where
