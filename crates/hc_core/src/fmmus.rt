@@ -69,10 +69,10 @@ impl Core {
         self.history = self.history.unplugged(station);
     }
 
-    /// The FMMUs of the declared slave with this station address are zero now, and no write of them that was sent earlier will
-    /// still pass it. The master says so after a frame of zeros to its FMMUs came back with working counter 1
+    /// Records that the FMMUs of the declared slave with this station address are zero, and that no write of them that was sent
+    /// earlier will still pass it. The master calls it after a frame of zeros to its FMMUs came back with working counter 1
     /// (`hc_frames::building::build_fmmu_off`), or after the slave powered up. The slave then holds up no task but those of its
-    /// own areas, while their blocks are owed. A slave of the line is forgotten too, as `forget` says, since zeros are not what
+    /// own areas, while their blocks are owed. A slave of the line is forgotten too, as `forget` does, since zeros are not what
     /// the line configures. Everything else stays. Fails with `UnknownStation` if no declared slave has the address; nothing
     /// has changed then. It needs no allocation (this project's profile).
     pub fn cleared(&mut self, station: u16) -> Result<(), CoreFault>
@@ -88,10 +88,10 @@ impl Core {
         Ok(())
     }
 
-    /// The declared slave with this station address, which is outside the line, is off the wire: its registers count for
-    /// nothing until its group is connected again. Everything else stays. Fails with `UnknownStation` if no declared slave has
-    /// the address; else with `AlreadyPresent` if the slave is in the line. Nothing has changed then. It needs no allocation
-    /// (this project's profile).
+    /// Records that the declared slave with this station address, which is outside the line, is off the wire. Its registers
+    /// count for nothing until its group is connected again. Everything else stays. Fails with `UnknownStation` if no declared
+    /// slave has the address; otherwise with `AlreadyPresent` if the slave is in the line. Nothing has changed then. It needs
+    /// no allocation (this project's profile).
     pub fn unplugged(&mut self, station: u16) -> Result<(), CoreFault>
         ensures accepted { OnOk result (lowest (unplug_faults self.old.history station) ≡ None) }
         ensures entries { OnOk result (self.new ≡ record self.old { history = Unplugged station ∷ self.old.history }) }

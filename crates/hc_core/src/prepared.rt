@@ -68,8 +68,8 @@ impl CoreEdit {
     }
 
     /// Returns the tasks that will wait once the edit is carried out and each slave that came with it is cleared (`cleared`).
-    /// Bit t of the number is 1 if task t waits, so that `send_ready_into` will refuse it. It takes no time (this project's
-    /// profile).
+    /// Bit t of the number is 1 if task t waits, so that `send_ready_into` will refuse it. It takes constant time (this
+    /// project's profile).
     pub fn will_wait(&self) -> u8
         ensures { result ≡ waiting_after self.now.core.history self.now.edit.report.swap.edit }
     {

@@ -135,9 +135,9 @@ impl Owed {
         self.found_at(plan, place)
     }
 
-    /// The first owed block of a plan's line at a place or after it, in line and block order; none if nothing is owed from there
-    /// on. So place 0 gives the first owed block, and the place after an owed block the next one. It looks at 64 places at a
-    /// time.
+    /// Returns the first owed block of a plan's line at a place or after it, in line and block order; none if nothing is owed
+    /// from there on. Place 0 gives the first owed block, and the place after an owed block the next one. It looks at 64 places
+    /// at a time.
     pub fn next_from(&self, plan: &Plan, place: u32) -> Option<OwedBlock>
         ensures next { GivesNextOwed plan.now self.now place result }
         ensures all { (known : Knowledge) (state : State) → lowest_fault (groups_of state.groups) ≡ None → owed_from known state 0 ≡ lacking_blocks known state }

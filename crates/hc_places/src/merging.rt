@@ -142,7 +142,7 @@ fn is_row_of(rows: &[VariableRow], index: usize, variable: VarId) -> bool
     }
 }
 
-/// Returns the number of rows with a lower number than a changed variable's. It is the number that the change gives, if that is
+/// Returns the number of rows with a lower number than a changed variable's. It is the number that the change has, if that is
 /// right; otherwise it is searched for after the first `front` rows, which are known to be lower.
 #[inline(always)]
 pub(crate) fn find_row(rows: &[VariableRow], front: usize, changed: &ChangedRow) -> usize

@@ -73,7 +73,7 @@ ranked-place state n low = by (find (λ (m : Member). m.rank == n / 16 + 1) (lin
             let rank : here.member.rank ≡ n / 16 + 1 = omega (arith, place, number, from) in
             absurd (not-found (λ (m : Member). m.rank == n / 16 + 1) (line state) here.member is (eq-eqb here.member.rank (n / 16 + 1) rank) here.on)
 
--- the stored block at a place where the line has one
+-- the stored block at a place, if the line has one there
 pub has-block : (state : State) (n : ℕ) (block : LineBlock) → slice_get (places state) n ≡ Some (Some block) → has_at (blocks_by_rank state.groups) n ≡ Some block.block
 has-block state n block at = ap (option_and_then (λ (b : Option RegisterBlock). b)) (slice_get-map block_in (places state) n ∙ ap (option_map block_in) at)
 
