@@ -1,4 +1,5 @@
-//! Sends tasks into an arena: one slice of the caller's that holds their frames one after another.
+//! `propose_within` and `send_into`: the sending of tasks into an arena, one slice of the caller's that holds their frames one
+//! after another.
 ghost use Rattle.std.specs.Prelude.{◌≡◌, ◌≢◌, ◌+◌, ◌<◌, ◌≤◌, ◌*◌, [], All, ◌++◌, Err, IfErr, IfOk, IfSome, None, OnErr, OnOk, Some, drop, length, sum_by, vec_capacity};
 ghost use Rattle.std.specs.List.{flat_map};
 ghost use Rattle.hc_records.specs.declared.limits.TheConstants.{MOST_DATAGRAMS, TASKS};

@@ -1,4 +1,4 @@
-//! The opening of a project's line.
+//! `Core::new`: the opening of a project's line.
 ghost use Rattle.std.specs.Prelude.{◌≡◌, IfErr, IfOk, None, OnOk};
 ghost use Rattle.hc_records.specs.Edits.{over_limit_task};
 ghost use Rattle.hc_records.specs.Line.{line, opened};

@@ -1,4 +1,4 @@
-//! The owed register blocks.
+//! `Core::owed_block`: the owed register blocks, one by one.
 ghost use Rattle.std.specs.Prelude.{◌≡◌, IfSome, slice_get};
 ghost use Rattle.hc_events.specs.Owed.{owed_blocks};
 ghost use Rattle.hc_core.specs.Firsts.{HasBlockBytes};

@@ -1,4 +1,4 @@
-//! Writes the part of one task in a proposal, so that tasks can be written side by side.
+//! `part_size` and `fill_part`: the part of one task in a proposal, so that tasks can be written side by side.
 ghost use Rattle.std.specs.Prelude.{◌≡◌, ◌≤◌, All, length};
 ghost use Rattle.hc_frames.specs.declared.limits.TheConstants.{SETUP_SERIAL};
 ghost use Rattle.hc_events.specs.Outputs.{sent_data};

@@ -1,4 +1,4 @@
-//! Frames of tasks that are sent.
+//! The sending of frames of tasks: `propose`, `preview` and `commit`.
 ghost use Rattle.std.specs.Prelude.{◌≡◌, ◌≢◌, ◌<◌, ◌≤◌, ◌*◌, [], All, Err, IfErr, IfOk, IfSome, None, OnErr, OnOk, Some, length, vec_capacity};
 ghost use Rattle.hc_records.specs.declared.limits.TheConstants.{MOST_DATAGRAMS, TASKS};
 ghost use Rattle.hc_records.specs.Lists.{lowest};

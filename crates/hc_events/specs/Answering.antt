@@ -135,7 +135,8 @@ pub record Judged : Type 0 where
 abbrev pub judge : List HistoryEntry → Head × Part → Judged
 judge since pair = record { head = pair.0; part = pair.1; verdict = verdict since pair.0 pair.1 }
 
--- the sending's heads in order, each with the arrival's datagram in its place and the verdict, as far as both go; whether the arrival fits isn't looked at
+-- the sending's heads in order, each with the arrival's datagram in its place and the verdict, as far as both go; the fit of
+-- the arrival is not tested
 abbrev pub judged : Arrival → Sending → List Judged
 judged arrival sending = map (judge sending.since) (zip sending.heads arrival.parts)
 

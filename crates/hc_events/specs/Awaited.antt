@@ -18,7 +18,8 @@ abbrev pub is_no_arrival : HistoryEntry → Bool
 is_no_arrival (Came arrival) = false
 is_no_arrival entry = true
 
--- a sending that neither ended nor is wholly out of date, without the arrivals since then: those that don't end it say nothing of it
+-- a sending that neither ended nor is wholly out of date, without the arrivals since then: those that do not end it say nothing
+-- of it
 abbrev pub still_awaited : ℕ → Sending → Option Sending
 still_awaited serial sending =
     if is_ended serial sending || all_outdated sending.since sending.heads then None

@@ -54,7 +54,8 @@ abbrev pub write_size : List LineBlock → ℕ
 write_size [] = 0
 write_size (block ∷ blocks) = frame_bytes (12 + length block.block.bytes)
 
--- it goes into a slice of so many bytes: refused as the event is, and after that where the slice is too short
+-- the faults of writing the first owed block into a slice of so many bytes: those of the event, then the fault of a slice that
+-- is too short
 abbrev pub write_into_faults : History → ℕ → List (Bool × CoreFault)
 write_into_faults history bytes = write_faults history (owed_blocks history) ++ room_faults (write_size (owed_blocks history)) bytes
 
@@ -62,7 +63,8 @@ write_into_faults history bytes = write_faults history (owed_blocks history) ++ 
 abbrev pub write_all_into_faults : History → ℕ → List (Bool × CoreFault)
 write_all_into_faults history bytes = write_faults history (owed_blocks history) ++ room_faults (writes_size (frame_blocks (owed_blocks history))) bytes
 
--- the frame that writes the first owed blocks that aren't under way, as many as it holds, goes into a slice of so many bytes: refused in the same way
+-- the faults of writing a further frame into a slice of so many bytes: those of the event, then the fault of a slice that is
+-- too short. The frame writes the first owed blocks that are not under way, as many as it holds
 abbrev pub further_into_faults : History → ℕ → List (Bool × CoreFault)
 further_into_faults history bytes = further_faults history ++ room_faults (writes_size (frame_blocks (further_blocks history))) bytes
 

@@ -24,8 +24,8 @@ abbrev pub posted_bit : List Member → ℕ → List ℕ → ℕ → Option Vari
 posted_bit line task bytes k place before =
     option_map_or (λ found. if is_posted task found then bit_of bytes (image_bit line found k) else before) place before
 
--- bit k of a placed output variable: its bit in the last accepted post of the task that it then had, since it got its place; 0 where there is none.
--- A variable has no place while its slave isn't in the line
+-- bit k of a placed output variable: its bit in the last accepted post of the task that it then had, since it got its place; 0
+-- if there is none. A variable has no place while its slave is not in the line
 abbrev pub value_bit : History → ℕ → ℕ → ℕ
 value_bit [] variable k = 0
 value_bit (Opened groups ∷ history) variable k = 0

@@ -136,7 +136,8 @@ member_areas task member =
 abbrev pub areas_in_task : ℕ → List Member → List (ℕ × (ℕ × (ℕ × Area)))
 areas_in_task task line = flat_map (member_areas task) line
 
--- in a project an edit that leaves the areas of a task, each in the same slave, doesn't change the task: so it is with a group, an area or a variable of other tasks
+-- in a project an edit that leaves the areas of a task, each in the same slave, does not change the task. Such an edit concerns
+-- a group, an area or a variable of other tasks
 abbrev pub EditsOfOthersChangeNoTask : Type 0
 EditsOfOthersChangeNoTask =
     (history : History) (edit : Edit) (task : ℕ) → task < TASKS

@@ -151,7 +151,8 @@ zeros_again : answer_to (entries_after_all docked (Edits (Disconnect 100) ∷ Ed
 unfolding bit_of number_of starts_within
 zeros_again = refl
 
--- Two tools with a byte of outputs each: a value goes with its variable to another place, and is 0 where the variable's tool comes again.
+-- Two tools with a byte of outputs each: a value goes with its variable to another place, and is 0 once the variable's tool
+-- comes again.
 
 abbrev byte_slave : ℕ → ℕ → Slave
 byte_slave station variable = record { station = station; areas = area_of 2 Out 0x1100 0x1600 variable 8 ∷ [] }

@@ -118,7 +118,8 @@ impl Owed {
         })
     }
 
-    /// The first owed block of a plan's line in line and block order; none if nothing is owed. It looks at 64 places at a time.
+    /// Returns the first owed block of a plan's line in line and block order; none if nothing is owed. It looks at 64 places at
+    /// a time.
     pub fn first(&self, plan: &Plan) -> Option<OwedBlock>
         ensures { GivesFirstOwed plan.now self.now result }
     {
@@ -126,8 +127,8 @@ impl Owed {
         self.found_at(plan, place)
     }
 
-    /// The owed block of a plan's line with an index, from 0, in line and block order; none if fewer are owed. It counts the
-    /// words of 64 places up to it.
+    /// Returns the owed block of a plan's line with an index, from 0, in line and block order; none if fewer are owed. It
+    /// counts the words of 64 places up to it.
     pub fn nth(&self, plan: &Plan, index: u32) -> Option<OwedBlock>
         ensures { (known : Knowledge) (state : State) → plan.now ≡ state → IsRightFor known state self.now → GivesOwedAt known state index result }
     {

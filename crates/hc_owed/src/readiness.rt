@@ -24,8 +24,8 @@ use std::marker::Model;
 /// The logical addresses that a task has (this project's profile).
 const TASK_SPAN: u32 = 0x0100_0000;
 
-/// The task, 0 to 7, in whose logical addresses a block's FMMU begins, if the block is an active FMMU's. None for the block of a
-/// sync manager, for an FMMU that is not active, and for addresses of no task (ETG.1000.4, 6.6).
+/// Returns the task, 0 to 7, with the logical address at which a block's FMMU begins, if the block is an active FMMU's. None
+/// for the block of a sync manager, for an FMMU that is not active, and for addresses of no task (ETG.1000.4, 6.6).
 fn named_task(block: &Block) -> Option<u8>
     ensures named { (task : ℕ) → task < TASKS → names_task task block.now.bytes ≡ option_map_or (λ own. own == task) result false }
     ensures low { IfSome result (λ task. task < TASKS) }
@@ -178,8 +178,8 @@ impl Readiness {
         }
     }
 
-    /// A write of the block of an area's FMMU was sent. No count changes by it: the owed block concerns the tasks that it concerned,
-    /// and no register in the line is counted.
+    /// Records that a write of the block of an area's FMMU was sent. No count changes by it: the owed block concerns the same
+    /// tasks as before, and no register in the line is counted.
     fn write_area(&mut self, n: usize, area: JudgedArea)
         requires { slice_get self.old n ≡ Some area }
         ensures { self.new ≡ changed_at n (λ _. area_written area) self.old }
@@ -233,8 +233,8 @@ impl Readiness {
         }
     }
 
-    /// The slave with an index by rank, from 0, may have lost its registers: each of its blocks is owed, if it is in the line. What its
-    /// FMMUs' registers may hold stays.
+    /// Follows the loss of the registers of the slave with an index by rank, from 0: each of its blocks is owed, if it is in
+    /// the line. The bytes that its FMMUs' registers may hold stay.
     pub fn forget(&mut self, index: u16)
         requires { 8 * index + 8 ≤ length self.old }
         ensures { ForgetsSlave self.old self.new index }
@@ -243,7 +243,8 @@ impl Readiness {
         self.turn(from, from + 8, Turn::Forgotten);
     }
 
-    /// The FMMUs' registers of the slave with an index by rank, from 0, hold zeros: they name no task, and are not unknown.
+    /// Follows the clearing of the FMMUs' registers of the slave with an index by rank, from 0: they hold zeros, name no task,
+    /// and are not unknown.
     pub fn clear(&mut self, index: u16)
         requires { 8 * index + 8 ≤ length self.old }
         ensures { ClearsSlave self.old self.new index }
@@ -252,8 +253,8 @@ impl Readiness {
         self.turn(from, from + 8, Turn::Cleared);
     }
 
-    /// The slave with an index by rank, from 0, which is outside the line, is off the wire: its registers concern no task until it is in the
-    /// line again.
+    /// Follows the unplugging of the slave with an index by rank, from 0, which is outside the line: its registers concern no
+    /// task until it is in the line again.
     pub fn unplug(&mut self, index: u16)
         requires { 8 * index + 8 ≤ length self.old }
         ensures { UnplugsSlave self.old self.new index }
@@ -336,14 +337,14 @@ impl Readiness {
         self.tally.is_free(task)
     }
 
-    /// The tasks that wait for nothing. It takes the time of eight tasks.
+    /// Returns the tasks that wait for nothing. It takes the time of eight tasks.
     pub fn ready(&self) -> TaskSet
         ensures { AreReady self.now result }
     {
         self.tally.free()
     }
 
-    /// The tasks that wait, each for some block or register. It takes the time of eight tasks.
+    /// Returns the tasks that wait, each for some block or register. It takes the time of eight tasks.
     pub fn waiting_tasks(&self) -> TaskSet
         ensures now { AreWaiting self.now result }
         ensures declared { ForetellsDeclared self.now result }

@@ -46,7 +46,7 @@ impl TaskSet {
         }
     }
 
-    /// The set with a task, 0 to 7, if it is to be added.
+    /// Returns the set with a task, 0 to 7, if it is to be added.
     pub fn with_task(self, task: u8, added: bool) -> TaskSet
         requires { task < TASKS }
         ensures { result ≡ tasks_where (λ other. has_task other self || (added && task == other)) }
@@ -82,7 +82,7 @@ impl TaskSet {
         }
     }
 
-    /// The set as a number: bit t is 1 if task t is in the set.
+    /// Returns the set as a number: bit t is 1 if task t is in the set.
     pub fn bits(self) -> u8
         ensures { result ≡ self.bits }
     {

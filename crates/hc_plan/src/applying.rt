@@ -70,8 +70,8 @@ fn names_of(alloc: Global, blocks: &[RankedBlock]) -> Result<Vec<(u16, u8)>, All
     Ok(names)
 }
 
-/// The differences between a line, by its table and its stored blocks, and the one that an edit makes of it, by the trees
-/// of that. The memory for the new table is allocated last. Fails with `AllocError` if an allocation fails.
+/// Returns the differences between a line, by its table and its stored blocks, and the line after an edit, by the trees of
+/// that. The memory for the new table is allocated last. Fails with `AllocError` if an allocation fails.
 fn say(
     alloc: Global,
     edit: &Edit,

@@ -288,8 +288,8 @@ fn put_trees(cuts: &mut LineCuts, slaves: u16, wider: Option<LineCuts>)
     }
 }
 
-/// The report of a declared group: a new epoch begins, and nothing of the line becomes different. Fails with `AllocError`
-/// if an allocation fails.
+/// Returns the report of a declared group: a new epoch begins, and nothing of the line changes. Fails with `AllocError` if an
+/// allocation fails.
 pub(crate) fn declared_report(
     alloc: Global,
     edit: &Edit,

@@ -27,7 +27,8 @@ use std::alloc::{AllocError, Global};
 use std::marker::{Brand, Model};
 use std::sync::ledger::Blank;
 
-/// The declared groups at the opening: the mandatory one, which has alias 0, is present alone.
+/// Returns the declared groups at the opening: only the mandatory one, which has alias 0, is present. Fails with `AllocError`
+/// if an allocation fails.
 fn opened_groups(alloc: Global, groups: Vec<Group>) -> Result<Items<Declared>, AllocError>
     ensures { IfOk result (λ opened. opened ≡ map opened_group groups.items) }
 {
@@ -140,7 +141,7 @@ impl Plan {
         })
     }
 
-    /// The number of accepted edits since the opening.
+    /// Returns the number of accepted edits since the opening.
     pub fn epoch(&self) -> u32
         ensures { result ≡ self.now.epoch }
     {

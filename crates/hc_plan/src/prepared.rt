@@ -54,7 +54,7 @@ impl PreparedEdit {
     ghost use Rattle.std.specs.Prelude.{◌≡◌};
     ghost use Rattle.hc_plan.specs.Prepared.{IsPrepared};
 
-    /// The report that carrying the edit out returns.
+    /// Returns the report that carrying out the edit will return.
     pub fn report(&self) -> &Report
         ensures report { result.now ≡ self.now.report }
         ensures prepared { IsPrepared self.now }
