@@ -1,4 +1,4 @@
--- Bits of a slice by the byte where they are, and runs of bits that are replaced in turn.
+-- The bits of a slice by their byte, and runs of bits that are replaced in turn.
 use Rattle.std.proofs.Common.{rules, ◌≡◌, ◌≢◌, ℕ, ◌+◌, ◌-◌, ◌*◌, ◌/◌, ◌%◌, ◌<◌, ◌≤◌, List, length, get_or, set, take, drop, get_or-set_same, get_or-set_other, refl, sym, ◌∙◌, ap, arith, inl, inr}
 use borrow.Rule.Slice.PartMut.{put_mid}
 use Rattle.std.specs.Int.{bit_at, to_le_bytes, from_le_bytes, w64}

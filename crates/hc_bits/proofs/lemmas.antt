@@ -1,3 +1,3 @@
--- What the crates above cite, a file a subject.
+-- Lemmas that the crates above cite, a file for each subject.
 pub mod Bits
 pub mod Places

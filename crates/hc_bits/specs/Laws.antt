@@ -1,4 +1,4 @@
--- What the contracts by single bits say of whole lists of bits.
+-- Laws of whole lists of bits, from the contracts by single bits.
 use Rattle.std.specs.Prelude.{◌≡◌, ℕ, ◌+◌, ◌*◌, ◌^◌, ◌<◌, ◌≤◌, ◌↔◌, ◌⊎◌, List, ◌++◌, length, take, drop, replicate}
 use Rattle.std.specs.Int.{bit_at}
 use Rattle.hc_bits.specs.Bits.{bit_of, AreBytes, ReplacesRun, low_bits, number_of, bits_of, run_of, with_run}

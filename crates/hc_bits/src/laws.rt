@@ -1,25 +1,24 @@
-//! Laws of the contracts: what is said bit by bit is a reading, a replacement and a copy of a part of the
-//! slice's list of bits; and where the bits of a slice and of its parts are. The functions do nothing; their
-//! contracts are the laws.
+//! Laws of the contracts. A call that reads, replaces or copies bits does so with a part of the slice's list of bits; and the
+//! bits of a slice's parts have their places in this list. The functions do nothing; their contracts are the laws.
 
 ghost use Rattle.hc_bits.specs.Laws.{BitsSayBytes, CopiesIntoList, DisjointRunsCommute, JoinedBitsFollow, PartsKeepBits, PutsIntoList, PutsWhatIsRead, ReadsList, SameBitsAreSameBytes, ZerosHaveNoBits};
 
-/// What `get_bits` answers is the number that the run's part of the list of bits spells.
+/// `get_bits` returns the number that the run's part of the list of bits spells.
 pub fn reading_takes_list()
     ensures { ReadsList }
 {}
 
-/// What `put_bits` leaves is the list of bits with the run's part replaced by the value's bits.
+/// `put_bits` leaves the list of bits with the run's part replaced by the value's bits.
 pub fn putting_replaces_list()
     ensures { PutsIntoList }
 {}
 
-/// What `copy_bits` leaves is the list of bits with the run's part replaced by a part of the other list.
+/// `copy_bits` leaves the list of bits with the run's part replaced by a part of the other list.
 pub fn copying_replaces_list()
     ensures { CopiesIntoList }
 {}
 
-/// What `put_bits` put is what `get_bits` then reads.
+/// `get_bits` reads the value that `put_bits` has put.
 pub fn put_is_read_back()
     ensures { PutsWhatIsRead }
 {}

@@ -57,7 +57,7 @@ fn whole_word(bytes: &[u8], first: usize) -> u64
     u64::from_le_bytes(word)
 }
 
-/// The 64 bits from bit `at` of byte `first` on, where they do not begin with a byte.
+/// Returns the 64 bits from bit `at` of byte `first` on, if they do not begin with a byte.
 fn word_at(bytes: &[u8], first: usize, at: usize) -> u64
     requires some { 0 < at }
     requires in_byte { at < 8 }
@@ -99,7 +99,7 @@ fn copy_bytes(from: &[u8], first: usize, to: &mut [u8], first2: usize, count: us
     to[first2..first2 + count].copy_from_slice(&from[first..first + count]);
 }
 
-/// Copies `count` words from bit `at` of byte `first` on, where that is not a byte's first bit.
+/// Copies `count` words from bit `at` of byte `first` on, if that is not a byte's first bit.
 fn copy_words(from: &[u8], first: usize, at: usize, to: &mut [u8], first2: usize, count: usize)
     requires some { 0 < at }
     requires in_byte { at < 8 }
@@ -113,7 +113,7 @@ fn copy_words(from: &[u8], first: usize, at: usize, to: &mut [u8], first2: usize
     }
 }
 
-/// The eight bits from bit `at` of byte `first` on, where they do not begin with a byte.
+/// Returns the eight bits from bit `at` of byte `first` on, if they do not begin with a byte.
 fn octet_at(bytes: &[u8], first: usize, at: usize) -> u8
     requires some { 0 < at }
     requires in_byte { at < 8 }
@@ -123,7 +123,7 @@ fn octet_at(bytes: &[u8], first: usize, at: usize) -> u8
     bytes[first] >> at | bytes[first + 1] << (8 - at)
 }
 
-/// Copies `count` times eight bits from bit `at` of byte `first` on, where that is not a byte's first bit.
+/// Copies `count` times eight bits from bit `at` of byte `first` on, if that is not a byte's first bit.
 fn copy_octets(from: &[u8], first: usize, at: usize, to: &mut [u8], first2: usize, count: usize)
     requires some { 0 < at }
     requires in_byte { at < 8 }
@@ -136,8 +136,8 @@ fn copy_octets(from: &[u8], first: usize, at: usize, to: &mut [u8], first2: usiz
     }
 }
 
-/// Copies into whole bytes from `first2` on, as long as eight bits or more of the `n` are left, and answers how
-/// many bytes it wrote.
+/// Copies into whole bytes from `first2` on, as long as eight bits or more of the `n` are left, and returns the number of bytes
+/// that it wrote.
 fn copy_most(from: &[u8], first: usize, at: usize, to: &mut [u8], first2: usize, n: usize) -> usize
     requires in_byte { at < 8 }
     requires from_within { 8 * first + at + n ≤ 8 * length from.now }
@@ -159,9 +159,9 @@ fn copy_most(from: &[u8], first: usize, at: usize, to: &mut [u8], first2: usize,
     }
 }
 
-/// The `n` bits of `bytes` from bit `at` on, as a number: the run's first bit is its least significant.
+/// Returns the `n` bits of `bytes` from bit `at` on, as a number: the run's first bit is its least significant.
 ///
-/// `n` is 0 to 64, and the run lies in the slice. Every such call answers; of no bits the number is 0.
+/// `n` is 0 to 64, and the run lies in the slice. The call cannot fail; for no bits the number is 0.
 pub fn get_bits(bytes: &[u8], at: usize, n: usize) -> u64
     requires word { n ≤ 64 }
     requires within { at + n ≤ 8 * length bytes.now }
@@ -176,11 +176,10 @@ pub fn get_bits(bytes: &[u8], at: usize, n: usize) -> u64
     get_from(bytes, first, place, n)
 }
 
-/// Replaces the `n` bits of `bytes` from bit `at` on by those of `value`, the least significant first.
-/// Every other bit stays.
+/// Replaces the `n` bits of `bytes` from bit `at` on by those of `value`, the least significant first. Every other bit stays.
 ///
-/// `n` is 0 to 64, the run lies in the slice, and `value` is below 2 to the power of `n`. Every such call
-/// writes; one of no bits leaves all as it was.
+/// `n` is 0 to 64, the run lies in the slice, and `value` is below 2 to the power of `n`. The call cannot fail; with no bits it
+/// changes nothing.
 pub fn put_bits(bytes: &mut [u8], at: usize, n: usize, value: u64)
     requires word { n ≤ 64 }
     requires within { at + n ≤ 8 * length bytes.old }
@@ -197,11 +196,10 @@ pub fn put_bits(bytes: &mut [u8], at: usize, n: usize, value: u64)
     }
 }
 
-/// Replaces the `n` bits of `to` from bit `at2` on by the `n` bits of `from` from bit `at` on. Every other bit
-/// stays.
+/// Replaces the `n` bits of `to` from bit `at2` on by the `n` bits of `from` from bit `at` on. Every other bit stays.
 ///
-/// Both runs lie in their slices, and `n` has no other bound. Every such call copies. Runs that are alike in
-/// their bytes go by a copy of memory, and others by words of 64 bits and by bytes.
+/// Both runs lie in their slices, and `n` has no other bound. The call cannot fail. If both runs begin at the same bit of a
+/// byte, their whole bytes are copied as memory; otherwise they are copied by words of 64 bits and by bytes.
 pub fn copy_bits(from: &[u8], at: usize, to: &mut [u8], at2: usize, n: usize)
     requires from_within { at + n ≤ 8 * length from.now }
     requires to_within { at2 + n ≤ 8 * length to.old }

@@ -1,4 +1,4 @@
--- What the outputs and the inputs of a tree are together.
+-- The outputs and the inputs of a tree together.
 use Rattle.std.specs.Prelude.{All, filter}
 use Rattle.std.proofs.Common.{◌≡◌, ℕ, zero, suc, ◌+◌, ◌<◌, ◌≤◌, List, [], ◌∷◌, ◌++◌, length, refl, sym, ap, subst, ◌∙◌, arith, append_assoc, append-nil}
 use Rattle.std.proofs.lemmas.List.Elements.{All-cons, All-head, All-tail, filter-append}

@@ -1,4 +1,4 @@
--- What a branch's nodes stand for, and what a search comes to at them.
+-- The areas that a branch's nodes stand for, and the searches at them.
 use Rattle.std.specs.Prelude.{All}
 use Rattle.std.proofs.Common.{◌≡◌, ℕ, suc, ◌+◌, ◌-◌, ◌*◌, ◌/◌, ◌%◌, ◌^◌, ◌<◌, ◌≤◌, List, [], ◌++◌, length, get_or, sym, ap, subst, ◌∙◌, arith}
 use Rattle.std.proofs.Math.Nat.{two-pow-succ}
@@ -182,7 +182,7 @@ pub after_it-found : (branch : Branch) (height node room : ℕ) (filled : Filled
 after_it-found branch height node room filled answer is less even at here beyond found =
     grind (arith, found-both, not-through, after_it-split)
 
--- where a search beyond the room ends, an area is found
+-- if a search ends beyond the room, an area is found
 pub beyond-in : (room : ℕ) (filled : Filled) (areas : List Keyed) (answer : Fit) → filled.bit ≤ room → room < (filled_with_areas filled areas).bit
     → answer ≡ scan room filled areas → IsInRoom room answer
 beyond-in room filled areas answer here beyond is = found-in room answer (not-through room filled areas answer here beyond is)

@@ -1,4 +1,4 @@
--- What a scan finds in a list, and in two lists in a row.
+-- The result of a scan of a list, and of two lists in a row.
 use Rattle.std.proofs.Common.{◌≡◌, ℕ, ◌<◌, ◌≤◌, Bool, true, false, List, [], ◌∷◌, ◌++◌, length, drop, refl, sym, ap, subst, ◌∙◌, arith, nat_le, if◌then◌else◌}
 use Rattle.std.proofs.lemmas.Bool.Decides.{nat_tests}
 use Rattle.std.proofs.lemmas.List.{drop-append-le}
@@ -24,7 +24,7 @@ with_areas-le [] filled = omega arith
 with_areas-le (area ∷ areas) filled =
     grind (arith, with_area-le, with_areas-le areas (filled_with_area filled area))
 
--- where all end within the room, the scan goes through
+-- if all areas end within the room, the scan goes through
 pub scan-all : (room : ℕ) (filled : Filled) (areas : List Keyed) → (filled_with_areas filled areas).bit ≤ room → scan room filled areas ≡ Through (filled_with_areas filled areas)
 scan-all room filled [] h = refl
 scan-all room filled (area ∷ areas) h =
@@ -39,7 +39,7 @@ step-by : (fits : Bool) (room : ℕ) (filled : Filled) (area : Keyed) (areas : L
     → (if fits then scan room (filled_with_area filled area) areas else Found area.0) ≡ Through end → Step room filled area areas end
 step-by fits room filled area areas end e h = grind arith
 
--- where it goes through, all are in the datagram
+-- if the scan goes through, all areas are in the datagram
 scan-through : (room : ℕ) (filled : Filled) (areas : List Keyed) (end : Filled) → filled.bit ≤ room → scan room filled areas ≡ Through end
     → (end ≡ filled_with_areas filled areas) × (end.bit ≤ room)
 scan-through room filled [] end h e = let same : filled ≡ end = cc in (sym same, subst (λ (r : Filled). r.bit ≤ room) same h)
@@ -53,7 +53,7 @@ scan-append-found room filled [] ys key h = cc
 scan-append-found room filled (x ∷ xs) ys key h =
     grind (arith, scan-append-found room (filled_with_area filled x) xs ys key)
 
--- where the first list goes through, the second is scanned from there
+-- if the scan goes through the first list, the second is scanned from there
 pub scan-append-through : (room : ℕ) (filled : Filled) (xs ys : List Keyed) (end : Filled) → scan room filled xs ≡ Through end → scan room filled (xs ++ ys) ≡ scan room end ys
 scan-append-through room filled [] ys end h = let same : filled ≡ end = cc in rw same refl
 scan-append-through room filled (x ∷ xs) ys end h =

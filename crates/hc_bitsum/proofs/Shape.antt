@@ -1,4 +1,4 @@
--- What keeps the shape of a branch.
+-- The steps that keep the shape of a branch.
 use Rattle.std.specs.Prelude.{All}
 use Rattle.std.proofs.Common.{◌≡◌, ℕ, ◌+◌, ◌^◌, ◌<◌, ◌≤◌, zero, suc, List, [], ◌∷◌, ◌++◌, length, refl, ap, arith, length-append}
 use Rattle.std.proofs.Math.Pow.{pow_mono}

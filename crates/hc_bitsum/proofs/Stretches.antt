@@ -184,7 +184,7 @@ between-by false false place first end from until area areas l h from-test until
     ∙ rest ∙ ap (λ n. take n (drop (first - (place + 1)) areas)) left
     ∙ sym (ap (λ n. take n (drop (first - place) (area ∷ areas))) none)
 
--- where places say which keys come before two others, the areas between these are a stretch
+-- if places tell which keys come before two others, the areas between these are a stretch
 between-stretch : (dir : Dir) (place first end : ℕ) (from until : Key) (xs : List Keyed) → AreFrom dir place xs
     → ((p : ℕ) → p < place + length xs → is_before (key_at dir p) from ≡ nat_lt p first)
     → ((p : ℕ) → p < place + length xs → is_before (key_at dir p) until ≡ nat_lt p end)

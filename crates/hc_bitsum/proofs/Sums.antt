@@ -1,4 +1,4 @@
--- What the nodes of an array of sums stand for.
+-- The sums of an array's nodes.
 use Rattle.std.proofs.Common.{◌≡◌, ℕ, zero, suc, ◌+◌, ◌-◌, ◌*◌, ◌/◌, ◌%◌, ◌^◌, ◌<◌, ◌≤◌, List, ◌++◌, length, get_or, sym, ap, ◌∙◌, arith}
 use Rattle.std.proofs.Math.Nat.{mul-le-mul_right, two-pow-succ}
 use Rattle.std.proofs.Math.Pow.{pow_mono}
@@ -22,7 +22,7 @@ double-next i s = grind arith
 pub more-by : (i s : ℕ) → (i + 1) * s ≡ i * s + s
 more-by i s = grind arith
 
--- what a node at an index of its level stands for, where the forks below it are
+-- the areas that a node at an index of its level stands for, if the forks below it are right
 at-index : (dir : Dir) (rows : List (List ℕ)) (sums : List Sum) (above height depth i : ℕ) → length rows ≡ 2 ^ (height + depth)
     → AreRowSums (λ j. Unit {0}) dir rows sums → AreForks (λ k. above < k) (length rows) sums → i < 2 ^ depth → above < 2 ^ depth + i
     → get_or sums (2 ^ depth + i) Empty ≡ sum_of (part dir rows (i * 2 ^ height) (2 ^ height))

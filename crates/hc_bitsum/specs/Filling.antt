@@ -1,4 +1,4 @@
--- How areas fill a datagram, one after another, whatever its room (this project's profile).
+-- The filling of a datagram by areas, one after another, whatever its room (this project's profile).
 use Rattle.std.specs.Prelude.{◌+◌, ◌==◌, if◌then◌else◌, List, [], ◌∷◌, filter}
 use Rattle.hc_records.specs.declared.keys.Key.{Key}
 use Rattle.hc_records.specs.Keys.{is_before}
@@ -11,12 +11,12 @@ use Rattle.hc_bitsum.specs.declared.filled.Filled.{Filled}
 abbrev pub front_of : Filled → Front
 front_of filled = record { datagram = 0; bit = filled.bit; last = filled.last }
 
--- an area after what fills the datagram; one of no bits takes no place
+-- the filling of a datagram with one more area; an area of no bits takes no place
 abbrev pub filled_with_area : Filled → Keyed → Filled
 filled_with_area filled area =
     if area.1 == 0 then filled else record { bit = beginning (front_of filled) area + area.1; last = area.0.dir }
 
--- the areas of a list after it, in their order
+-- the filling of a datagram with the areas of a list, in their order
 abbrev pub filled_with_areas : Filled → List Keyed → Filled
 filled_with_areas filled [] = filled
 filled_with_areas filled (area ∷ areas) = filled_with_areas (filled_with_area filled area) areas

@@ -1,4 +1,4 @@
--- What follows from the definition of a sum. Each is the contract of a function of `laws`.
+-- Laws that follow from the definition of a sum. Each is the contract of a function of `laws`.
 use Rattle.std.specs.Prelude.{◌≡◌, ℕ, ◌≤◌, List}
 use Rattle.hc_records.specs.declared.records.Dir.{Dir}
 use Rattle.hc_records.specs.TaskList.{Keyed}
@@ -17,15 +17,15 @@ pub record IsNeutral (empty : Sum) : Type 0 where
   pub before : (sum : Sum) → sums_joined empty sum ≡ sum
   pub after_it : (sum : Sum) → sums_joined sum empty ≡ sum
 
--- the empty sum is such a one
+-- the empty sum is neutral
 abbrev pub EmptyIsNeutral : Type 0
 EmptyIsNeutral = IsNeutral Empty
 
--- an end never falls when an area is appended: wherever a run starts, one with an area appended ends no earlier
+-- an end never falls when an area is appended: from any start, a run with an area appended ends no earlier
 abbrev pub EndsNeverFall : Type 0
 EndsNeverFall = (sum : Sum) (dir : Dir) (bits : ℕ) (filled : Filled) → (filled_by_run sum filled).bit ≤ (filled_by_run (sums_joined sum (sum_of_area dir bits)) filled).bit
 
--- and so it is of what fills a datagram: an area never takes bits back
+-- an area that is added to a datagram never takes bits back
 abbrev pub AreasTakeNothingBack : Type 0
 AreasTakeNothingBack = (filled : Filled) (area : Keyed) → filled.bit ≤ (filled_with_area filled area).bit
 

@@ -1,4 +1,4 @@
--- How a tree keeps its places: the areas of one direction after those of the other.
+-- The places of a tree: the areas of one direction after those of the other.
 use Rattle.std.specs.Prelude.{◌≡◌, ℕ, ◌+◌, ◌*◌, ◌≤◌, true, All, List, [], ◌∷◌, length}
 use Rattle.hc_records.specs.declared.records.Dir.{Dir}
 use Rattle.hc_records.specs.TaskList.{Keyed}

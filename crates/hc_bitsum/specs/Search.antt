@@ -15,13 +15,14 @@ first_beyond room filled [] = END
 first_beyond room filled (area ∷ areas) =
     if nat_le (filled_with_area filled area).bit room then first_beyond room (filled_with_area filled area) areas else area.0
 
--- the same, with how far the datagram is filled where none does: what a search of a part of the areas comes to
+-- the result of a search of a part of the areas: the key of the first area that would end past the room, or the filling of the
+-- datagram if none would
 abbrev pub scan : ℕ → Filled → List Keyed → Fit
 scan room filled [] = Through filled
 scan room filled (area ∷ areas) =
     if nat_le (filled_with_area filled area).bit room then scan room (filled_with_area filled area) areas else Found area.0
 
--- the key that a search found, or END where it went through all areas
+-- the key that a search found, or END if it went through all areas
 abbrev pub key_or_end : Fit → Key
 key_or_end (Found key) = key
 key_or_end (Through filled) = END

@@ -1,4 +1,4 @@
--- What a part of a tree is seen as: areas of one direction, in key order, each with its width, which may be 0.
+-- The model of a part of a tree: areas of one direction, in key order, each with its width, which may be 0.
 use Rattle.std.specs.Prelude.{◌≡◌, ℕ, zero, suc, ◌+◌, ◌-◌, ◌/◌, ◌%◌, ◌^◌, ◌≤◌, List, [], ◌∷◌, All, drop, length, take}
 use Rattle.hc_records.specs.declared.limits.TheConstants.{MOST_AREA_BITS}
 use Rattle.hc_records.specs.declared.records.Dir.{Dir}
@@ -21,11 +21,11 @@ pub record IsShaped (slots : Slots) : Type 0 where
   pub low : slots.height ≤ 15
   pub narrow : All IsNarrow slots.areas
 
--- the width of the area at a place is set
+-- areas with the width of the one at a place set
 abbrev pub set_at : ℕ → ℕ → List Keyed → List Keyed
 set_at at bits areas = changed_at at (λ area. (area.0, bits)) areas
 
--- the slots with that width set among their areas (`set_at`), of the same height
+-- the slots with the width of the area at a place set (`set_at`), and the same height
 abbrev pub with_bits : Slots → ℕ → ℕ → Slots
 with_bits slots at bits = record { height = slots.height; areas = set_at at bits slots.areas }
 

@@ -1,4 +1,4 @@
--- What the sum of a run of areas says: where the run ends, by the bit where it starts.
+-- The sum of a run of areas: the end of the run, by the bit at which it starts.
 use Rattle.std.specs.Prelude.{ℕ, ◌+◌, ◌*◌, ◌/◌, ◌%◌, ◌<◌, ◌==◌, nat_le, Bool, if◌then◌else◌, List, [], ◌∷◌, slice_index}
 use Rattle.hc_records.specs.declared.records.Dir.{Dir}
 use Rattle.hc_records.specs.Keys.{is_turn}
@@ -8,7 +8,7 @@ use Rattle.hc_bitsum.specs.declared.filled.Filled.{Filled}
 use Rattle.hc_bitsum.specs.declared.sum.Sum.{Sum}
 use Rattle.hc_bitsum.specs.declared.sum.Sum.TheVariants.{Empty, Run}
 
--- where a run with these ends ends, begun at any bit: whole bytes before the start move the end by as much
+-- the end of a run with these ends, begun at any bit: whole bytes before the start move the end by as much
 abbrev pub end_from : List ℕ → ℕ → ℕ
 end_from ends bit = 8 * (bit / 8) + slice_index ends (bit % 8)
 
@@ -24,18 +24,18 @@ area_end bits bit = (if nat_le 8 bits then next_byte bit else bit) + bits
 abbrev pub sum_of_area : Dir → ℕ → Sum
 sum_of_area dir bits = if bits == 0 then Empty else Run dir dir (ends_by (area_end bits))
 
--- the bit where a run starts: the next byte's first one where it turns from outputs to inputs
+-- the bit at which a run starts: the next byte's first one if it turns from outputs to inputs
 abbrev pub start_at : Bool → ℕ → ℕ
 start_at turns bit = if turns then next_byte bit else bit
 
--- a run and then another
+-- the sum of a run and then another
 abbrev pub sums_joined : Sum → Sum → Sum
 sums_joined Empty later = later
 sums_joined (Run first last ends) Empty = Run first last ends
 sums_joined (Run first last ends) (Run next end laters) =
     Run first end (ends_by (λ bit. end_from laters (start_at (is_turn last next) (end_from ends bit))))
 
--- how far a datagram is filled once the run is in it
+-- the filling of a datagram once a run is added
 abbrev pub filled_by_run : Sum → Filled → Filled
 filled_by_run Empty filled = filled
 filled_by_run (Run first last ends) filled =

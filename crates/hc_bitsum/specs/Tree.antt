@@ -1,4 +1,4 @@
--- What a tree of sums is seen as.
+-- The model of a tree of sums.
 use Rattle.std.specs.Prelude.{◌≡◌, ℕ, ◌^◌, ◌<◌, ◌≤◌, ◌==◌, ◌⊎◌, nat_lt, Bool, if◌then◌else◌, All, List, [], ◌∷◌, ◌++◌, filter}
 use Rattle.hc_records.specs.declared.keys.Key.{Key}
 use Rattle.hc_records.specs.declared.keys.TheConstants.Key.{START}
@@ -7,7 +7,7 @@ use Rattle.hc_records.specs.Keys.{is_before}
 use Rattle.hc_records.specs.SpanLaws.{IsTaskList}
 use Rattle.hc_records.specs.TaskList.{Keyed}
 
--- how many slaves it has places for, and the areas with a width, in key order
+-- the number of slaves that it has places for, and the areas with a width, in key order
 pub record Tree : Type 0 where
   pub slaves : ℕ
   pub list : List Keyed
@@ -18,11 +18,12 @@ pub record HasPlace (slaves : ℕ) (key : Key) : Type 0 where
   pub last : key.rank ≤ slaves
   pub area : key.area < MOST_AREAS
 
--- what has places for so many slaves has room for others too: each power of two that is no less than the one number is no less than the other
+-- a tree with places for so many slaves has room for others too: each power of two that is not below the first number is not
+-- below the second
 abbrev pub HasRoom : ℕ → ℕ → Type 0
 HasRoom slaves others = (levels : ℕ) → slaves ≤ 2 ^ levels → others ≤ 2 ^ levels
 
--- what any tree has: the list of a task, and a place for each of its areas
+-- the invariant of a tree: the list of a task, and a place for each of its areas
 pub record HoldsTaskList (tree : Tree) : Type 0 where
   pub list : IsTaskList tree.list
   pub places : All (λ area. HasPlace tree.slaves area.0) tree.list
@@ -35,7 +36,7 @@ CanBegin slaves key = (key ≡ START) ⊎ HasPlace slaves key
 abbrev pub has_width : Keyed → Bool
 has_width area = nat_lt 0 area.1
 
--- the list with the width of a key set: between those of lower and of higher keys, and not at all where it has no bits
+-- the list with the width of a key set: between those of lower and of higher keys, and not at all if it has no bits
 abbrev pub with_width : Key → ℕ → List Keyed → List Keyed
 with_width key bits list =
     filter (λ area. is_before area.0 key) list

@@ -1,11 +1,11 @@
-//! What makes an area begin after the first free bit.
+//! The rule by which an area begins after the first free bit, at a byte border.
 ghost use Rattle.std.specs.Prelude.{◌≡◌, ◌^◌, ◌<◌};
 ghost use Rattle.hc_records.specs.Keys.{is_turn};
 ghost use Rattle.hc_records.specs.Packing.{next_byte};
 
 use hc_records::records::Dir;
 
-/// The first byte border at or after a bit.
+/// Returns the first byte border at or after a bit.
 pub fn byte_border(bit: u32) -> u32
     requires { bit < 2 ^ 31 }
     ensures { result ≡ next_byte bit }
@@ -13,7 +13,7 @@ pub fn byte_border(bit: u32) -> u32
     (bit + 7) / 8 * 8
 }
 
-/// Whether an input comes after an output.
+/// True if an input comes after an output.
 pub fn is_turning(last: Dir, dir: Dir) -> bool
     ensures { result ≡ is_turn last dir }
 {

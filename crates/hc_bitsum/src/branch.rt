@@ -1,5 +1,5 @@
-//! A part of a tree: the areas of one direction, a row for each slave, and above the rows a tree of sums in an array.
-//! Node 1 is the root, below node `k` are `2 * k` and `2 * k + 1`, and the last level has a node for each row.
+//! `Branch`: a part of a tree, with the areas of one direction. It has a row for each slave, and above the rows a tree of sums
+//! in an array. Node 1 is the root, below node `k` are `2 * k` and `2 * k + 1`, and the last level has a node for each row.
 ghost use Rattle.std.specs.Prelude.{◌≡◌, ◌+◌, ◌-◌, ◌*◌, ◌^◌, ◌<◌, ◌≤◌, ◌++◌, ◌∷◌, [], All, IfOk, IsTrue, OnOk, length, drop, filter, get_or};
 ghost use Rattle.hc_records.specs.declared.limits.TheConstants.{MOST_AREA_BITS};
 ghost use Rattle.hc_bitsum.specs.Branch.{AreForks, AreRowSums, AreSums, IsBranch, IsNode, areas_after, node_areas, branch_slots};
@@ -25,7 +25,7 @@ use std::sync::ledger::Ledger;
 #[derive(Debug)]
 pub(crate) struct Branch {
     dir: Dir,
-    /// How many levels of nodes are above the last one: 2 to the power of it rows.
+    /// The number of levels of nodes above the last one: 2 to the power of it rows.
     levels: u32,
     rows: Vec<AreaWidths>,
     sums: Vec<Sum>,
@@ -42,8 +42,8 @@ impl Drop for Branch {
     }
 }
 
-/// Where a walk over rows is: the next row, a node that begins with it, that node's height above the
-/// last level, and how far a datagram is filled by the rows before.
+/// The position of a walk over rows: the next row, a node that begins with it, that node's height above the last level, and the
+/// filling of a datagram by the rows before.
 #[derive(Clone, Copy)]
 struct Climbed {
     row: usize,
@@ -52,7 +52,7 @@ struct Climbed {
     filled: Filled,
 }
 
-/// Sums a row, and what is above it, anew.
+/// Computes the sum of a row again, and the sums of the nodes above it.
 fn sum_anew(dir: Dir, levels: u32, rows: &[AreaWidths], sums: &mut [Sum], row: usize)
     requires low { levels ≤ 11 }
     requires many { length rows.now ≡ 2 ^ levels }
@@ -73,8 +73,8 @@ fn sum_anew(dir: Dir, levels: u32, rows: &[AreaWidths], sums: &mut [Sum], row: u
 }
 
 impl Branch {
-    /// Areas of no bits: 2 to the power of the levels rows of them. `AllocError` where a growth was
-    /// refused.
+    /// Returns a branch of areas of no bits, with 2 to the power of `levels` rows. Fails with `AllocError` if an allocation
+    /// fails.
     pub(crate) fn blank(alloc: Global, dir: Dir, levels: u32) -> Result<Branch, AllocError>
         requires low { levels ≤ 11 }
         ensures slots { IfOk result (λ branch. branch_slots branch ≡ blank_slots dir levels) }
@@ -98,7 +98,7 @@ impl Branch {
         self.sums[1]
     }
 
-    /// How far a datagram is filled once all areas of a node are in it.
+    /// Returns the filling of a datagram once all areas of a node are in it.
     fn filled_by(&self, node: usize, filled: Filled) -> Filled
         requires node { node < length self.now.sums.items }
         requires here { filled.bit < 2 ^ 31 }
@@ -108,7 +108,7 @@ impl Branch {
         filled.after(&self.sums[node])
     }
 
-    /// Returns how far a datagram is filled after all areas of a node are in it. Reading the node is a step.
+    /// Returns the filling of a datagram once all areas of a node are in it. Reading the node is a step.
     fn after_node<L: Ledger>(&self, node: usize, filled: Filled, steps: &mut Steps<L>) -> Filled
         requires node { node < length self.now.sums.items }
         requires here { filled.bit < 2 ^ 31 }
@@ -120,8 +120,8 @@ impl Branch {
         self.filled_by(node, filled)
     }
 
-    /// Fills a datagram with the areas of a node that it has no room for all of, as long as each ends
-    /// within the room, in bits. Each node and area that is read is a step.
+    /// Fills a datagram with the areas of a node, as long as each ends within the room, in bits. There is no room for all of
+    /// them. Each node and area that is read is a step.
     fn fit_below<L: Ledger>(
         &self,
         top: u32,
@@ -293,8 +293,8 @@ impl Branch {
         }
     }
 
-    /// Fills a datagram with the nodes from where a climb came to, each lower than the one before, up
-    /// to the row by which they end.
+    /// Fills a datagram with the nodes from the end of a climb on, each lower than the one before, up to the row by which they
+    /// end.
     fn descend(&self, from: Climbed, end: usize) -> Filled
         requires branch { IsBranch self.now }
         requires order { from.row ≤ end }
@@ -322,8 +322,7 @@ impl Branch {
         }
     }
 
-    /// How far a datagram is filled once the areas from one place up to another are in it, gone over
-    /// one by one.
+    /// Returns the filling of a datagram once the areas from one place up to another are in it, gone over one by one.
     fn filled_by_each(&self, first: u32, end: u32, filled: Filled) -> Filled
         requires branch { IsBranch self.now }
         requires order { first ≤ end }
@@ -338,7 +337,7 @@ impl Branch {
         so_far
     }
 
-    /// How far a datagram is filled once the areas from one place up to another are in it.
+    /// Returns the filling of a datagram once the areas from one place up to another are in it.
     #[inline(never)]
     fn filled_by_stretch(&self, first: u32, end: u32, filled: Filled) -> Filled
         requires branch { IsBranch self.now }
@@ -358,7 +357,7 @@ impl Branch {
         self.filled_by_each(8 * end_row, end, rows)
     }
 
-    /// How far a datagram is filled once its areas from one key on and before another are in it.
+    /// Returns the filling of a datagram once its areas from one key on and before another are in it.
     #[inline(always)]
     pub(crate) fn filled_between(&self, from: Key, until: Key, filled: Filled) -> Filled
         requires branch { IsBranch self.now }
@@ -396,7 +395,7 @@ impl Branch {
         sum_anew(self.dir, self.levels, &self.rows, &mut self.sums, row);
     }
 
-    /// Whether no area of a row has a width, by the row's sum.
+    /// True if the sum of a row is empty: no area of the row has a width.
     fn is_blank(&self, index: usize) -> bool
         requires branch { IsBranch self.now }
         requires within { index < length self.now.rows.items }
@@ -408,7 +407,7 @@ impl Branch {
         }
     }
 
-    /// Whether it has no area with a width, by the sum of all.
+    /// True if the sum of all areas is empty: none of them has a width.
     fn is_empty(&self) -> bool
         requires { IsBranch self.now }
         ensures { IsTrue result → filter has_width (branch_slots self.now).areas ≡ [] }
@@ -419,7 +418,7 @@ impl Branch {
         }
     }
 
-    /// Adds the area after `at` others to areas, if it has a width. `AllocError` where a growth was refused.
+    /// Adds the area after `at` others to areas, if it has a width. Fails with `AllocError` if an allocation fails.
     fn add_area(&self, areas: &mut Vec<(Key, u16)>, at: u32) -> Result<(), AllocError>
         requires branch { IsBranch self.now }
         requires within { at < length (branch_slots self.now).areas }
@@ -432,8 +431,8 @@ impl Branch {
         Ok(())
     }
 
-    /// Adds those of its areas from one place up to another that have a width to others, in their order. Rows
-    /// without such an area are passed over. `AllocError` where a growth was refused.
+    /// Adds those of its areas from one place up to another that have a width to others, in their order. It skips rows without
+    /// such an area. Fails with `AllocError` if an allocation fails.
     fn add_stretch(
         &self,
         areas: &mut Vec<(Key, u16)>,
@@ -457,8 +456,8 @@ impl Branch {
         Ok(())
     }
 
-    /// Adds its areas from one key on and before another that have a width to others, in key order. The room
-    /// for them is taken first; `AllocError` where a growth was refused.
+    /// Adds its areas from one key on and before another that have a width to others, in key order. Their memory is allocated
+    /// first. Fails with `AllocError` if an allocation fails.
     pub(crate) fn add_between(
         &self,
         areas: &mut Vec<(Key, u16)>,

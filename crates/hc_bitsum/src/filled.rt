@@ -1,4 +1,4 @@
-//! How far a datagram is filled.
+//! `Filled`: the filling of a datagram.
 ghost use Rattle.std.specs.Prelude.{◌≡◌, ◌+◌, ◌^◌, ◌<◌, ℕ};
 ghost use Rattle.hc_bitsum.specs.Filling.{filled_with_area};
 ghost use Rattle.hc_bitsum.specs.Search.{datagram_begun};
@@ -9,7 +9,7 @@ use crate::borders::is_turning;
 use crate::sum::{Sum, start_at};
 use hc_records::records::Dir;
 
-/// How far a datagram is filled: its first free bit, and the direction of the area before that bit.
+/// The filling of a datagram: its first free bit, and the direction of the area before that bit.
 #[derive(Clone, Copy, Debug, PartialEq, Eq)]
 pub struct Filled {
     /// The first free bit, counted from the least significant bit of byte 0.
@@ -19,14 +19,14 @@ pub struct Filled {
 }
 
 impl Filled {
-    /// A datagram where a run begins at a bit: nothing before it makes a first input begin a byte.
+    /// Returns a datagram in which a run begins at a bit. Nothing before the run makes a first input begin a byte.
     pub fn begun(bit: u32) -> Filled
         ensures { result ≡ datagram_begun bit }
     {
         Filled { bit, last: Dir::In }
     }
 
-    /// How far it is filled once a run of areas is after what fills it.
+    /// Returns the filling once a run of areas is added.
     pub fn after(self, run: &Sum) -> Filled
         requires here { self.bit < 2 ^ 31 }
         requires there { (filled_by_run run.now self).bit < 2 ^ 32 }
@@ -35,7 +35,7 @@ impl Filled {
         run.ended(self)
     }
 
-    /// How far it is filled once one more area, of a width in bits, is after what fills it.
+    /// Returns the filling once an area with a width in bits is added; an area of no bits changes nothing.
     pub(crate) fn after_area(self, dir: Dir, bits: u16) -> Filled
         requires { self.bit < 2 ^ 31 }
         ensures { (place : ℕ) → result ≡ filled_with_area self (key_at dir place, bits) }

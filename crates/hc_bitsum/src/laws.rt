@@ -1,8 +1,7 @@
-//! What follows from the definition of a sum, so that a reader can trust it: each function here does
-//! nothing, and its contract is a law. Nobody calls it.
+//! Laws that follow from the definition of a sum. Each function here does nothing, and its contract is a law. Nobody calls it.
 ghost use Rattle.hc_bitsum.specs.Laws.{AreasTakeNothingBack, EmptyIsNeutral, EndsNeverFall, JoiningIsAssociative, SumsFillAsTheirAreas};
 
-/// Of three runs in a row it doesn't matter which two are joined first.
+/// Three runs in a row have the same sum, whichever two are joined first.
 pub fn joining_is_associative()
     ensures { JoiningIsAssociative }
 {}
@@ -12,8 +11,8 @@ pub fn empty_is_neutral()
     ensures { EmptyIsNeutral }
 {}
 
-/// An end never falls when an area is appended: wherever a run starts, the run with one more area ends at the
-/// same bit or at a later one.
+/// An end never falls when an area is appended: from any start bit, the run with one more area ends at the same bit or at a
+/// later one.
 pub fn ends_never_fall()
     ensures { EndsNeverFall }
 {}

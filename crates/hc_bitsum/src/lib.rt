@@ -1,5 +1,5 @@
-//! Sums of what areas take of a datagram, and trees of such sums over a task's areas: a search in a
-//! tree finds the area that a datagram has no room for, without going over the areas before it.
+//! Sums of the bits that areas take in a datagram, and trees of such sums over a task's areas. A search in a tree finds the
+//! first area that a datagram has no room for, without going over the areas before it.
 #![tactic(auto)]
 
 pub mod borders;

@@ -17,8 +17,8 @@ use std::sync::ledger::Ledger;
 /// The widths of a slave's areas in bits.
 pub(crate) type AreaWidths = [u16; 8];
 
-/// What a search comes to: the key of the first area that would end past the room, or how far the
-/// datagram is filled after all of them.
+/// The result of a search: the key of the first area that would end past the room, or the filling of the datagram after all of
+/// them.
 #[derive(Clone, Copy)]
 pub(crate) enum Fit {
     Found(Key),
@@ -52,7 +52,7 @@ pub(crate) fn key_at(dir: Dir, place: u32) -> Key
     }
 }
 
-/// How many places of a direction, of so many, have a key before another key.
+/// Returns the number of places of a direction, among the first `places`, that have a key before another key.
 pub(crate) fn places_before(dir: Dir, key: Key, places: u32) -> u32
     requires { places ≤ 2 ^ 15 }
     ensures within { result ≤ places }

@@ -1,11 +1,11 @@
-//! A count of what searches read, which takes no byte when the program runs.
+//! `Steps`: the number of reads of searches, which takes no byte when the program runs.
 ghost use Rattle.std.specs.Prelude.{◌≡◌, ◌+◌};
 
 use std::marker::Model;
 use std::sync::ledger::{Blank, Book, Ledger, Share};
 
-/// How many nodes and areas searches have read. It is in contracts alone: it takes no byte, and no
-/// program can ask for the number.
+/// The number of nodes and areas that searches have read. It is in contracts alone: it takes no byte, and no program can ask
+/// for the number.
 #[derive(Drop)]
 pub struct Steps<L: Ledger> {
     book: Book<L>,
@@ -23,7 +23,7 @@ impl<L: Ledger> Model for Steps<L> {
 }
 
 impl<L: Ledger> Steps<L> {
-    /// No step yet, of a ledger that nobody else writes to: a caller that counts nothing has it of
+    /// Returns a count of no steps, for a ledger that nobody else writes to. A caller that counts nothing makes it of
     /// `Blank::new(1)`.
     pub fn start(blank: Blank) -> Steps<L>
         requires name { blank.name ≡ L.name }
@@ -35,7 +35,7 @@ impl<L: Ledger> Steps<L> {
         Steps { book, share }
     }
 
-    /// A node or an area was read.
+    /// Counts one read of a node or an area.
     pub fn tick(&mut self)
         ensures { self.new ≡ self.old + 1 }
     {

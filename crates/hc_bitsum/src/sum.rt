@@ -1,4 +1,4 @@
-//! What a run of areas takes of a datagram.
+//! `Sum`: the bits that a run of areas takes in a datagram.
 ghost use Rattle.std.specs.Prelude.{◌≡◌, ◌+◌, ◌^◌, ◌<◌, ◌≤◌, ℕ};
 ghost use Rattle.hc_records.specs.declared.limits.TheConstants.{MOST_AREA_BITS};
 ghost use Rattle.hc_bitsum.specs.Sums.{EndsBelow, end_from, filled_by_run, ends_by, sums_joined, start_at, sum_of_area};
@@ -12,8 +12,8 @@ use hc_records::records::Dir;
 pub enum Sum {
     /// No area with a width.
     Empty,
-    /// The directions of the first and the last area, and the bit after the run where it starts at
-    /// each of the 8 bits of byte 0.
+    /// The directions of the first and the last area, and for each of the 8 bits of byte 0 the bit after the run if it starts
+    /// there.
     Run {
         first: Dir,
         last: Dir,
@@ -21,7 +21,7 @@ pub enum Sum {
     },
 }
 
-/// The bit where a run starts: the next byte's first one where it begins a byte.
+/// Returns the bit at which a run starts: the first one of the next byte if it begins a byte.
 pub(crate) fn start_at(turns: bool, bit: u32) -> u32
     requires { bit < 2 ^ 31 }
     ensures { result ≡ start_at turns bit }
@@ -94,8 +94,7 @@ impl Sum {
         }
     }
 
-    /// The sum of this run and then another. Every end of both lies below bit 2^31: of at most 32,768
-    /// areas it does.
+    /// Returns the sum of this run and then another. Every end of both is below bit 2^31, as it is for at most 32,768 areas.
     pub fn join(self, later: Sum) -> Sum
         requires own { EndsBelow (2 ^ 31) self }
         requires both { EndsBelow (2 ^ 31) (sums_joined self later) }
@@ -121,7 +120,7 @@ impl Sum {
         }
     }
 
-    /// How far a datagram is filled once this run is after what fills it.
+    /// Returns the filling of a datagram once this run is added.
     pub(crate) fn ended(&self, filled: Filled) -> Filled
         requires here { filled.bit < 2 ^ 31 }
         requires there { (filled_by_run self.now filled).bit < 2 ^ 32 }

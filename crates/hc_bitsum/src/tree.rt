@@ -1,4 +1,4 @@
-//! A tree of sums over the areas of a task: those with a width, in key order.
+//! `SumTree`: a tree of sums over the areas of a task, those with a width, in key order.
 ghost use Rattle.std.specs.Prelude.{◌≡◌, ◌+◌, ◌*◌, ◌^◌, ◌<◌, ◌≤◌, ◌++◌, ℕ, IfOk, IsTrue, drop, length};
 ghost use Rattle.hc_records.specs.declared.limits.TheConstants.{MOST_SLAVES};
 ghost use Rattle.hc_bitsum.specs.Tree.{CanBegin, HasPlace, HoldsTaskList};
@@ -49,7 +49,7 @@ impl Model for SumTree {
     ghost invariant = { λ tree. KeepsAreas tree.slaves tree.outputs tree.inputs };
 }
 
-/// The least power of two that is at least the number of slaves, or 1: its exponent.
+/// Returns the exponent, 0 to 11, of the least power of two that is not below the number of slaves.
 fn levels_of(slaves: u16) -> u32
     requires { slaves ≤ MOST_SLAVES }
     ensures room { slaves ≤ 2 ^ result }
@@ -64,7 +64,7 @@ fn levels_of(slaves: u16) -> u32
     11
 }
 
-/// Whether a key has a place among those of so many slaves.
+/// True if a key has a place among those of so many slaves.
 fn has_place(slaves: u16, key: Key) -> bool
     ensures yes { IsTrue result → HasPlace slaves key }
     ensures no { HasPlace slaves key → IsTrue result }
@@ -82,8 +82,8 @@ fn place_of(key: Key) -> u32
     8 * (u32::from(key.rank) - 1) + u32::from(key.area)
 }
 
-/// A tree with places for the areas of so many slaves, at most 2,048, and with these areas. `AllocError` where
-/// a growth was refused.
+/// Returns a tree with places for the areas of so many slaves, at most 2,048, and with these areas. Fails with `AllocError` if
+/// an allocation fails.
 fn filled_tree(alloc: Global, slaves: u16, areas: &[(Key, u16)]) -> Result<SumTree, AllocError>
     requires most { slaves ≤ MOST_SLAVES }
     requires holds { HoldsTaskList (record { slaves = slaves; list = areas.now }) }
@@ -97,8 +97,8 @@ fn filled_tree(alloc: Global, slaves: u16, areas: &[(Key, u16)]) -> Result<SumTr
     Ok(tree)
 }
 
-/// Fills a datagram with the areas of two parts in a row, from the one after `skip` others of the first
-/// part on, as long as each ends within the room, in bits.
+/// Fills a datagram with the areas of two parts in a row, after the first `skip` areas of the first part, as long as each ends
+/// within the room, in bits.
 fn fit_both<L: Ledger>(
     first: &Branch,
     second: &Branch,
@@ -132,8 +132,8 @@ impl SumTree {
     ghost use Rattle.hc_bitsum.specs.Sums.{sum_of};
     ghost use Rattle.hc_bitsum.specs.Tree.{HasRoom, with_width};
 
-    /// A tree with places for the areas of so many slaves, at most 2,048; none has a width yet.
-    /// `AllocError` where a growth was refused.
+    /// Returns a tree with places for the areas of so many slaves, at most 2,048; none has a width yet. Fails with `AllocError`
+    /// if an allocation fails.
     pub fn new(alloc: Global, slaves: u16) -> Result<SumTree, AllocError>
         requires { slaves ≤ MOST_SLAVES }
         ensures { IfOk result (λ tree. tree ≡ record { slaves = slaves; list = [] }) }
@@ -146,8 +146,8 @@ impl SumTree {
         })
     }
 
-    /// Sets the width of an area of one of its slaves, at most 11,888 bits; an area of no bits takes no
-    /// place. Its areas are then a task's list again. It takes no memory.
+    /// Sets the width of an area of one of its slaves, at most 11,888 bits; an area of no bits takes no place. Its areas are
+    /// then a task's list again. It allocates nothing.
     pub fn set(&mut self, key: Key, bits: u16)
         requires place { HasPlace self.old.slaves key }
         requires narrow { bits ≤ MOST_AREA_BITS }
@@ -161,16 +161,16 @@ impl SumTree {
         }
     }
 
-    /// Whether it has room for so many slaves: it has places for as many as the least power of two that its own
-    /// slaves need. It takes no memory.
+    /// True if it has room for so many slaves: it has places for the least power of two that is not below the number of its own
+    /// slaves. It allocates nothing.
     pub fn has_room(&self, slaves: u16) -> bool
         ensures { IsTrue result ↔ HasRoom self.now.slaves slaves }
     {
         u32::from(slaves) <= 1 << levels_of(self.slaves)
     }
 
-    /// From now on there are so many slaves; it has room for them: those after its own have no areas yet. Its
-    /// areas stay, and are a task's list. It takes no memory.
+    /// Sets the number of slaves, for which it has room: those after its present ones have no areas yet. Its areas stay, and
+    /// are a task's list. It allocates nothing.
     pub fn admit(&mut self, slaves: u16)
         requires more { self.old.slaves ≤ slaves }
         requires room { HasRoom self.old.slaves slaves }
@@ -180,8 +180,8 @@ impl SumTree {
         self.slaves = slaves;
     }
 
-    /// A tree of its own areas with places for so many slaves, at most 2,048: those after its own have no areas
-    /// yet. Its areas are gone over. `AllocError` where a growth was refused.
+    /// Returns a tree of its own areas with places for so many slaves, at most 2,048: those after its own have no areas yet. It
+    /// goes over all its areas. Fails with `AllocError` if an allocation fails.
     pub fn widened(&self, alloc: Global, slaves: u16) -> Result<SumTree, AllocError>
         requires more { self.now.slaves ≤ slaves }
         requires most { slaves ≤ MOST_SLAVES }
@@ -192,8 +192,8 @@ impl SumTree {
         filled_tree(alloc, slaves, &areas)
     }
 
-    /// The width in bits of the area with a key, at most 11,888; 0 where it takes no place. The key may
-    /// be any. It takes no memory and no steps.
+    /// Returns the width in bits of the area with a key, at most 11,888; 0 if it takes no place. The key may be any. It
+    /// allocates nothing, and takes no steps.
     pub fn bits(&self, key: Key) -> u16
         ensures width { result ≡ width_in self.now.list key }
         ensures narrow { result ≤ MOST_AREA_BITS }
@@ -208,11 +208,10 @@ impl SumTree {
         }
     }
 
-    /// How far a datagram is filled once its areas from one key on, that one included, and before another
-    /// are in it after what fills it, at most 11,888 bits: `Filled::begun(0)` where they begin the
-    /// datagram. The keys may be any, `Key::START` and `Key::END` too; no area lies between where the
-    /// second isn't after the first. One climb and one descent in each direction's tree. It takes no
-    /// memory and no steps.
+    /// Returns the filling of a datagram once its areas from one key on, that one included, and before another are added to a
+    /// filling of at most 11,888 bits: `Filled::begun(0)` if they begin the datagram. The keys may be any, `Key::START` and
+    /// `Key::END` too; no area lies between them if the second is not after the first. It takes one climb and one descent in
+    /// each direction's tree. It allocates nothing, and takes no steps.
     pub fn filled_between(&self, from: Key, until: Key, filled: Filled) -> Filled
         requires { filled.bit ≤ MOST_AREA_BITS }
         ensures { result ≡ filled_with_areas filled (areas_between from until self.now.list) }
@@ -221,9 +220,9 @@ impl SumTree {
         self.inputs.filled_between(from, until, outputs)
     }
 
-    /// Its areas from one key on, that one included, and before another, in key order, each with its width. The
-    /// keys may be any, as for `filled_between`. The rows of slaves without such areas are passed over, each by
-    /// its sum; it takes no steps. Its areas are a task's list. `AllocError` where a growth was refused.
+    /// Returns its areas from one key on, that one included, and before another, in key order, each with its width. The keys
+    /// may be any, as for `filled_between`. It skips the rows of slaves without such areas by their sums, and takes no steps.
+    /// Its areas are a task's list. Fails with `AllocError` if an allocation fails.
     pub fn areas_between(
         &self,
         alloc: Global,
@@ -246,11 +245,10 @@ impl SumTree {
         self.outputs.total().join(self.inputs.total())
     }
 
-    /// The key after the longest run of areas from a key on that ends within a room where it begins at
-    /// a bit: the key of the first area that would end past the room, or `Key::END` where none does.
-    /// The key is one that `set` takes, or `Key::START`, and then all areas are gone over; bit and room
-    /// are at most 11,888. Each node and area that is read is a step, at least 1 and at most 62. Its
-    /// areas are a task's list, so a search can begin at each of their keys. It takes no memory.
+    /// Returns the key of the first area that would end past a room, or `Key::END` if none would. The areas from a key on fill
+    /// a datagram from bit `phase` on. The key is one that `set` takes, or `Key::START`, with which all areas are gone over.
+    /// `phase` and `room` are at most 11,888 bits. Each node and area that is read is a step, at least 1 and at most 62. Its
+    /// areas are a task's list, so that a search can begin at each of their keys. It allocates nothing.
     pub fn last_fit<L: Ledger>(&self, from: Key, phase: u32, room: u32, steps: &mut Steps<L>) -> Key
         requires from { CanBegin self.now.slaves from }
         requires phase { phase ≤ room }

@@ -15,6 +15,6 @@ abbrev pub owns_embedded : Global → Ptr → Option the_row.Denot → Fml
 owns_embedded alloc at None = ftrue
 owns_embedded alloc at (Some value) = box_owns (ghosts.dealloc_token alloc) the_row at value
 
--- the form in which the logic stores a handle
+-- the encoding of the content of a handle: a line, or none
 abbrev pub embedded_coded : Coded (Option the_row.Denot)
 embedded_coded = coded_option the_row.coded

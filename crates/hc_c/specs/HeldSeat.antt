@@ -15,6 +15,6 @@ abbrev pub owns_end : Global → Ptr → Option the_row.Denot → Fml
 owns_end alloc at None = ftrue
 owns_end alloc at (Some value) = box_owns (ghosts.dealloc_token alloc) the_row at value
 
--- the form in which the logic stores a handle of a seat
+-- the encoding of the content of a seat's handle: a task's end, or none
 abbrev pub end_coded : Coded (Option the_row.Denot)
 end_coded = coded_option the_row.coded

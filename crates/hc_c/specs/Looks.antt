@@ -37,7 +37,7 @@ abbrev pub is_input : Dir → Bool
 is_input Out = false
 is_input In = true
 
--- the bit of its task's image at which a place of the present line begins
+-- the first bit of a place of the present line in its task's image
 unfoldable pub image_bit_of : History → VariablePlace → ℕ
 image_bit_of history place = table_image_bit (table_of (line_of history)) place 0
 

@@ -46,7 +46,7 @@ pub record BeginWith (image : Image) (owner : SenderEnd Image) (task : ReceiverE
   pub shown : seen owner.place ≡ image ∷ []
   pub viewed : seen task.place ≡ image ∷ []
 
--- the means by which a task posts, and the owner's end of them: nothing was posted yet
+-- the sender of a task's posts and the owner's receiver of them: nothing was posted yet
 pub record AreEndsOfPosts (posts : TaskPosts) (owner : ReceiverEnd MailedPost) : Type 0 where
   pub one_mail : posts.sender.place.table_id ≡ owner.place.table_id
   pub nothing_posted : (seen posts.sender.place ≡ []) × (seen owner.place ≡ [])

@@ -1,4 +1,4 @@
-//! Laws of the words in which the contracts of C's calls are written.
+//! Laws of the definitions that the contracts of C's calls use.
 ghost use Rattle.hc_c.specs.Beside.{BuiltIsMine};
 ghost use Rattle.hc_c.specs.LastSendings.{CallsLead, SeatsSeeTheState, StatesTellLastData};
 ghost use Rattle.hc_c.specs.Offsets.{ReadsHoldByOffset};

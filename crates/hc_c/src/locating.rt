@@ -1,4 +1,4 @@
-//! The place in a text at which it is no project.
+//! `zangjulf_locate`: the reason why a text is no project, and its place.
 ghost use Rattle.std.specs.Prelude.{◌≡◌, ◌≢◌};
 ghost use Rattle.hc_c.specs.Locations.{Locates, index_or_none, key_item, key_number, location_out, position_out, located_out};
 
@@ -41,7 +41,7 @@ pub struct Location {
     line: usize,
     /// For a text that is no TOML document the column, in characters from 1; otherwise 0.
     column: usize,
-    /// For any other fault the first place at which its condition holds.
+    /// For any other fault its first place in the text.
     place: LocatedPlace,
     /// For two things that may not be together the earlier one; otherwise as `place`.
     first: LocatedPlace,

@@ -24,7 +24,7 @@ pub struct Place {
     datagram: u8,
     /// The number of its bits, 1 to 64.
     bits: u8,
-    /// Whether it is an input, which the slave sends.
+    /// True if it is an input, which the slave sends.
     is_input: bool,
     /// Its first bit in the datagram's data, counted from the least significant bit of byte 0.
     bit: u16,
@@ -90,7 +90,7 @@ pub fn part_at(core: &Core, task: u8) -> (u16, u16)
     core.plan().places().part(task)
 }
 
-/// Returns the bit of its task's image at which a place of the present line begins.
+/// Returns the first bit of a place of the present line in its task's image.
 #[tactic(auto, unfolding(crate::specs::Looks::image_bit_of, crate::specs::Looks::datagram_at))]
 pub fn image_bit_of(core: &Core, place: LinePlace) -> u32
     ensures { result ≡ image_bit_of core.now.history place }

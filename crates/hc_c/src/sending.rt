@@ -30,7 +30,7 @@ pub struct SentFrame {
     size: u32,
 }
 
-/// The reasons for which a task waits, in C.
+/// A task that waits, with the numbers of blocks and registers that hold it up, in C.
 #[repr(C)]
 #[derive(Clone, Copy)]
 pub struct WaitingTask {
@@ -75,7 +75,7 @@ fn put_table(at: u32, frames: &[Sending], table: &mut [SentFrame])
     put_table(at + size, rest, others);
 }
 
-/// Stores the serial at which the last sending of each of these tasks begins. There are at most eight, which bounds the
+/// Stores `serial` as the first serial of the last sending of each of these tasks. There are at most eight, which bounds the
 /// recursion.
 fn note_sent(firsts: &mut [u64], tasks: &[u8], serial: u64)
     ensures { firsts.new ≡ all_sent_from serial firsts.old tasks.now }

@@ -2,7 +2,7 @@
 ghost use Rattle.std.specs.Prelude.{◌≡◌};
 ghost use Rattle.hc_c.specs.declared.version.TheConstants.{ABI, MAJOR, MINOR, PATCH};
 
-/// The number of the binary interface. It grows with each release in which a call or a struct differs or is gone.
+/// The number of the binary interface. It grows with each release that changes or removes a call or a struct.
 pub const ABI: u32 = 1;
 
 /// The first number of the version.

@@ -1,4 +1,4 @@
--- What is met, and added, while a list is gone along.
+-- The elements that are added while a list is gone along.
 use Rattle.std.proofs.Common.{◌≡◌, ℕ, ◌+◌, ◌<◌, ◌≤◌, Bool, cond, List, [], ◌∷◌, ◌++◌, None, append-nil, arith, drop, length, get_or, sym, ap, ◌∙◌, append_assoc, if◌then◌else◌, rules}
 use Rattle.std.specs.Prelude.{filter, map}
 use Rattle.std.specs.List.{flat_map, zip}
@@ -11,7 +11,7 @@ use Rattle.hc_cuts.specs.LineChange.{LineChange}
 use Rattle.hc_places.specs.Swap.{ChangedRow}
 use Rattle.hc_changes.specs.Rows.{gone_rows, gone_variables}
 
--- where each that passes a test adds one element
+-- each element that passes a test adds one element
 
 unchanged-first : {X Y : Type 0} (passes : Bool) (make : X → Y) (x : X) (rest : List X) (had has : List Y) → has ≡ had ++ (if passes then make x ∷ [] else [])
     → has ++ map make rest ≡ had ++ map make (cond passes (x ∷ rest) rest)

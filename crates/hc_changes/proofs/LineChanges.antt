@@ -1,4 +1,4 @@
--- What a change of declared groups makes differ in their line.
+-- The differences that a change of declared groups makes in their line.
 use Rattle.std.proofs.Common.{◌≡◌, Bool, false, List, [], Option, None, Some, if◌then◌else◌, refl, sym}
 use Rattle.std.specs.Prelude.{map, slice_get}
 use Rattle.std.specs.Option.{option_map_or}

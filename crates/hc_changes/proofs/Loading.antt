@@ -30,7 +30,7 @@ use Rattle.hc_places.proofs.lemmas.Lines.{table-loaded}
 use Rattle.hc_changes.specs.Tables.{TableIsEdited}
 use Rattle.hc_changes.proofs.lemmas.Tables.{task-list}
 
--- so many datagrams of a task, or all where it has fewer
+-- so many datagrams of a task, or all if it has fewer
 abbrev pub loaded_up_to : ℕ → List Placed → ℕ → TaskTable
 loaded_up_to task areas number = loaded task areas (min number (datagram_count areas))
 

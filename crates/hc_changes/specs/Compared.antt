@@ -1,11 +1,12 @@
--- What an area was in the old line, and which of its blocks differ: each is compared with the block that had its number.
+-- The old area of an area, and its blocks that differ: each is compared with the block that had its number.
 use Rattle.std.specs.Prelude.{◌==◌, if◌then◌else◌, List, [], ◌∷◌, find, slice_get, Option, option_and_then, option_map}
 use Rattle.std.specs.Option.{option_map_or}
 use Rattle.hc_records.specs.Line.{Member}
 use Rattle.hc_registers.specs.Blocks.{LineBlock, same_block}
 use Rattle.hc_changes.specs.MaybeMovedAreas.{LineArea, line_area_blocks}
 
--- the area of a line that is where another does: at its index in the slave with its slave's rank; none where the line lacks that slave
+-- the area of a line at the position of another area: at its index in the slave with its slave's rank; none if the line lacks
+-- that slave
 abbrev pub counterpart : List Member → LineArea → Option LineArea
 counterpart line found =
     option_and_then (λ member. option_map (λ area. record { member = member; index = found.index; area = area }) (slice_get member.slave.areas found.index))
@@ -15,7 +16,7 @@ counterpart line found =
 abbrev pub blocks_in : List Member → LineArea → List LineBlock
 blocks_in line found = option_map_or (line_area_blocks line) (counterpart line found) []
 
--- the blocks of a list that aren't the same as those in their places in another list
+-- the blocks of a list that differ from those in their places in another list
 abbrev pub unlike : List LineBlock → List LineBlock → List LineBlock
 unlike [] blocks = blocks
 unlike (other ∷ others) [] = []

@@ -1,4 +1,4 @@
--- What an edit makes of groups.
+-- The groups after an edit.
 use Rattle.std.specs.Prelude.{◌≡◌, false, List}
 use Rattle.hc_records.specs.declared.edit.Edit.{Edit}
 use Rattle.hc_records.specs.declared.records.Declared.{Declared}

@@ -1,4 +1,4 @@
--- What an edit makes of a line, reported before it is carried out.
+-- The effect of an edit on a line, before it is carried out.
 use Rattle.std.specs.Prelude.{◌≡◌, List, None, map}
 use Rattle.hc_records.specs.declared.records.Declared.{Declared}
 use Rattle.hc_records.specs.Line.{groups_of, line_from}
@@ -12,7 +12,8 @@ use Rattle.hc_cuts.specs.ApplyWidths.{AreLines}
 use Rattle.hc_changes.specs.MaybeMovedAreas.{MaybeMoved, DifferAt, maybe_moved_of, maybe_moved_areas}
 use Rattle.hc_changes.specs.Edited.{HasEdit}
 
--- what a change of declared groups makes differ in their line: the slaves that it concerns, with the areas that each has before and after
+-- the differences that a change of declared groups makes in their line: the slaves that it concerns, with the areas that each
+-- has before and after
 abbrev pub line_change_of : Prepared → List Declared → LineChange
 line_change_of change groups = record {
   first = first_rank_of change;
@@ -26,7 +27,7 @@ pub record EditedLine : Type 0 where
   pub new : List Declared
   pub change : LineChange
 
--- what a change makes of the line of some groups
+-- the effect of a change on the line of some groups
 abbrev pub edited_line_of : Prepared → List Declared → EditedLine
 edited_line_of change groups = record { old = groups; new = changed_groups change groups; change = line_change_of change groups }
 

@@ -1,4 +1,4 @@
--- What follows from the definitions. Each is the contract of a function of `laws`.
+-- Laws that follow from the definitions. Each is the contract of a function of `laws`.
 use Rattle.std.specs.Prelude.{◌≡◌, ℕ, true, false, List, None}
 use Rattle.hc_records.specs.Line.{State, groups_of, line}
 use Rattle.hc_records.specs.TaskList.{Keyed}

@@ -15,7 +15,7 @@ use Rattle.hc_places.specs.Table.{VariableRow, Table, place_in}
 use Rattle.hc_cuts.specs.LineChange.{LineChange}
 use Rattle.hc_changes.specs.MaybeMovedAreas.{MaybeMoved}
 
--- the variables of a candidate with their places; none where it is nowhere
+-- the variables of a candidate with their places; none if it has no place
 abbrev pub rows_of : MaybeMoved → List VariableRow
 rows_of maybe_moved = option_map_or (area_rows maybe_moved.area.task maybe_moved.area) maybe_moved.place []
 
@@ -39,11 +39,11 @@ assigned_variables areas = flat_map area_variables_of areas
 abbrev pub is_assigned : ℕ → List Area → Bool
 is_assigned variable areas = list_any (λ other. other == variable) (assigned_variables areas)
 
--- a row without a place for each of these variables that isn't among those after the edit
+-- a row without a place for each of these variables that is not among those after the edit
 abbrev pub rows_of_gone : List ℕ → List ℕ → List ChangedRow
 rows_of_gone before after = map (λ variable. (variable, None)) (filter (λ variable. not (list_any (λ other. other == variable) after)) before)
 
--- those of a slave's areas before that its areas after don't carry
+-- the variables that a slave's areas carried before and do not carry after
 abbrev pub gone_variables : List Area × List Area → List ℕ
 gone_variables slave = filter (λ variable. not (is_assigned variable slave.1)) (assigned_variables slave.0)
 
@@ -55,7 +55,8 @@ gone_rows change = map (λ variable. (variable, None)) (flat_map gone_variables 
 abbrev pub candidate_rows : List MaybeMoved → List VariableRow
 candidate_rows candidates = flat_map rows_of candidates
 
--- what an edit changes of an old table: the candidates' variables that are elsewhere, then the variables that go with the changed slaves' areas
+-- the changes of an edit to an old table: the candidates' variables that are elsewhere, then the variables that go with the
+-- changed slaves' areas
 abbrev pub changed_rows : Table → List MaybeMoved → LineChange → List ChangedRow
 changed_rows old candidates change = moved_rows old (candidate_rows candidates) ++ gone_rows change
 
@@ -66,7 +67,7 @@ pub record HoldsArea (area : Area) (placed : Placed) : Type 0 where
   pub inside : placed.bit + width area ≤ MOST_AREA_BITS
   pub offers : OffersBits area
 
--- where a candidate is, its place lies in one of 16 datagrams of one of the eight tasks and holds its area
+-- if a candidate has a place, this lies in one of 16 datagrams of one of the eight tasks and holds its area
 abbrev pub IsInside : MaybeMoved → Type 0
 IsInside maybe_moved = (placed : Placed) → maybe_moved.place ≡ Some placed → HoldsArea maybe_moved.area placed
 

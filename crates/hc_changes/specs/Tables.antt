@@ -1,4 +1,5 @@
--- Which tasks' tables an edit changes, reported without laying the tasks out: what a kept datagram holds is in the old table.
+-- The tasks whose tables an edit changes, reported without laying the tasks out: the use of a kept datagram is in the old
+-- table.
 use Rattle.std.specs.Prelude.{◌≡◌, List, None}
 use Rattle.hc_records.specs.declared.records.Declared.{Declared}
 use Rattle.hc_records.specs.Line.{groups_of, line_from}

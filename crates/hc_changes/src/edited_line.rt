@@ -1,5 +1,5 @@
-//! A line, and what an edit makes of it before it is carried out: what differs is given by one `LineChange`, which is
-//! made here of what the edit changes of the declared groups.
+//! `EditedLine`: a line, and the effect of an edit on it before the edit is carried out. One `LineChange` has the differences;
+//! it is made here from the edit's changes to the declared groups.
 ghost use Rattle.std.specs.Prelude.{◌≡◌};
 ghost use Rattle.hc_groups.specs.declared.prepared.Prepared.TheVariants.{Areas, Presence};
 ghost use Rattle.hc_changes.specs.EditedLine.{line_change_of};
@@ -12,7 +12,7 @@ use hc_groups::prepared::Prepared;
 use hc_records::records::{Area, Declared, Slave};
 use std::marker::Model;
 
-/// What differs in the line of declared groups where one of them comes or goes.
+/// Returns the differences in the line of declared groups if one of them comes or goes.
 fn presence_changes<'a>(groups: &'a [Declared], change: &PresenceChange) -> LineChange<'a>
     ensures { result ≡ line_change_of (Presence change.now) groups.now }
 {
@@ -27,7 +27,7 @@ fn presence_changes<'a>(groups: &'a [Declared], change: &PresenceChange) -> Line
     )
 }
 
-/// What differs where one slave of a group gets other areas.
+/// Returns the differences in the line if one slave of a group gets other areas. There are none if the group is absent.
 fn slave_changes<'a>(declared: &'a Declared, change: &'a AreasChange) -> LineChange<'a>
     ensures { result ≡ slave_change_of change.now declared.now }
 {
@@ -41,7 +41,7 @@ fn slave_changes<'a>(declared: &'a Declared, change: &'a AreasChange) -> LineCha
     }
 }
 
-/// What differs in the line of declared groups where a slave of one of them gets other areas.
+/// Returns the differences in the line of declared groups if a slave of one of them gets other areas.
 fn areas_changes<'a>(groups: &'a [Declared], change: &'a AreasChange) -> LineChange<'a>
     ensures { result ≡ line_change_of (Areas change.now) groups.now }
 {
@@ -51,8 +51,8 @@ fn areas_changes<'a>(groups: &'a [Declared], change: &'a AreasChange) -> LineCha
     slave_changes(declared, change)
 }
 
-/// What a change of declared groups makes differ in their line: the slaves that it concerns, with the areas that each has
-/// in the line before it is carried out and after. It takes no memory.
+/// Returns the differences that a change of declared groups makes in their line: the slaves that it concerns, with the areas of
+/// each in the line before the change and after it. It allocates nothing.
 fn line_change<'a>(groups: &'a [Declared], change: &'a Prepared) -> LineChange<'a>
     ensures { result ≡ line_change_of change.now groups.now }
 {
@@ -62,8 +62,8 @@ fn line_change<'a>(groups: &'a [Declared], change: &'a Prepared) -> LineChange<'
     }
 }
 
-/// A line, and what an edit makes of it. Contracts see the declared groups before and after, and what differs in their
-/// line; each other slave has the areas that it had.
+/// A line, and the effect of an edit on it. Contracts see the declared groups before and after, and the differences in their
+/// line; each other slave keeps its areas.
 #[derive(Drop)]
 pub struct EditedLine<'a> {
     groups: &'a Indexed<'a>,
@@ -95,7 +95,8 @@ impl<'a> EditedLine<'a> {
     ghost use Rattle.hc_changes.specs.Edited.{HasEdit};
     ghost use Rattle.hc_changes.specs.EditedLine.{IsEditedLine, edited_line_of};
 
-    /// What a prepared edit makes of the line of the groups of a project, which it leaves a project's. It takes no memory.
+    /// Returns the effect of a prepared edit on the line of a project's groups, which are a project's after it too. It
+    /// allocates nothing.
     pub fn of(groups: &'a Indexed<'a>, prepared: &'a Prepared) -> EditedLine<'a>
         requires edited { HasEdit groups.now (changed_groups prepared.now groups.now) }
         requires was { lowest_fault (groups_of groups.now) ≡ None }
@@ -118,8 +119,8 @@ impl<'a> EditedLine<'a> {
         self.groups.groups()
     }
 
-    /// The number, from 0, of a declared group from which a walk over the slaves meets each one with this rank or a
-    /// higher one, and the rank of the group's first slave. It takes no memory.
+    /// Returns the number, from 0, of a declared group from which a walk over the slaves meets each one with this rank or a
+    /// higher one, and the rank of the group's first slave. It allocates nothing.
     pub(crate) fn group_before(&self, rank: u16) -> (usize, u16)
         ensures inside { result.0 ≤ length self.now.old }
         ensures first { result.1 ≡ sum_by declared_count (take result.0 self.now.old) + 1 }
@@ -128,22 +129,22 @@ impl<'a> EditedLine<'a> {
         self.groups.group_before(rank)
     }
 
-    /// What differs in the line.
+    /// Returns the differences in the line.
     pub fn change(&self) -> &LineChange<'a>
         ensures { result.now ≡ self.now.change }
     {
         &self.change
     }
 
-    /// Whether the slave with a rank is one that the edit concerns.
+    /// True if the edit concerns the slave with a rank.
     pub fn is_changed(&self, rank: u16) -> bool
         ensures { result ≡ changes self.now.change rank }
     {
         self.change.index_of(rank).is_some()
     }
 
-    /// The areas that a declared slave has in the line after the edit, by its rank, its record before it,
-    /// and whether its group was present then.
+    /// Returns the areas that a declared slave has in the line after the edit, from its rank, its record before the edit, and a
+    /// flag if its group was present then.
     pub fn areas_after(&self, rank: u16, present: bool, slave: &'a Slave) -> &'a [Area]
         requires { areas_of_rank (areas_by_rank self.now.old) rank ≡ (if present then slave.now.areas else []) }
         ensures { result.now ≡ areas_of_rank (areas_by_rank self.now.new) rank }

@@ -1,5 +1,5 @@
-//! The areas of a new line that may be configured in another way than in the old one, found slave by slave
-//! where the tasks are turned.
+//! `maybe_moved_areas`: the areas of a new line that may be configured in another way than in the old one. They are found slave
+//! by slave, from the turned trees of the tasks.
 ghost use Rattle.std.specs.Prelude.{◌≡◌, ◌&&◌, IfOk, slice_index_or};
 ghost use Rattle.hc_records.specs.declared.keys.Key.{Key};
 ghost use Rattle.hc_records.specs.declared.keys.TheConstants.Key.{END};
@@ -35,7 +35,7 @@ fn key_of(area: &Area, rank: u16, index: u8) -> Key
     }
 }
 
-/// The boundary of a task with a number, by the boundaries without `Key::END`.
+/// Returns the boundary of a task with a number, from the boundaries without `Key::END`, which stands for all later ones.
 fn start_at(starts: &[Key], number: usize) -> Key
     ensures { result ≡ slice_index_or starts.now number END }
 {
@@ -52,8 +52,8 @@ fn higher(one: Key, other: Key) -> Key
     if one.is_before(other) { other } else { one }
 }
 
-/// What says of an area of a line whether it is a candidate, and where it is: what an edit makes of the
-/// line, what is known of the tasks before they were turned, and the turned tasks. Contracts see the first.
+/// The test of an area as a candidate, with its place. It reads the edited line, the state of the tasks before they were
+/// turned, and the turned tasks. Contracts see the edited line.
 #[derive(Drop)]
 struct MaybeMovedTest<'b, 'a> {
     edited_line: &'b EditedLine<'a>,
@@ -83,7 +83,7 @@ impl<'b, 'a> MaybeMovedTest<'b, 'a> {
     ghost use Rattle.hc_changes.specs.inner.Found.{HoldChanged, HoldRanks, HoldRecut, IsGroupAt, LieWithin, area_found, found_below, rank_found, ranked_station, is_unchanged_at};
     ghost use Rattle.hc_changes.specs.EditedLine.{IsEditedLine, maybe_moved_areas_of};
 
-    /// Whether an area of a task with a place, if it has one, is in a datagram that isn't kept up to it.
+    /// True if an area of a task has a place, and its datagram is not kept up to this place.
     fn is_recut(&self, task: Task, place: &Option<Placed>) -> bool
         requires { IfSome place.now (λ placed. is_before placed.key END ≡ true) }
         ensures { result ≡ option_map_or (λ placed. not (is_unchanged_at self.now task placed)) place.now false }
@@ -99,8 +99,8 @@ impl<'b, 'a> MaybeMovedTest<'b, 'a> {
         }
     }
 
-    /// The candidate that an area of the new line is, if it is one, by the station address and the rank of
-    /// its slave, and by its index there. Its place is found among the turned tasks.
+    /// Returns the candidate for an area of the new line, if it is one, from the station address and the rank of its slave, and
+    /// its index there. Its place is found among the turned tasks.
     fn judge(
         &self,
         places: &mut Finder,
@@ -131,8 +131,8 @@ impl<'b, 'a> MaybeMovedTest<'b, 'a> {
         })
     }
 
-    /// Adds the candidates of a declared slave, by its rank, its record before the edit, and whether its
-    /// group was present then.
+    /// Adds the candidates of a declared slave, from its rank, its record before the edit, and a flag if its group was present
+    /// then. Fails with `AllocError` if an allocation fails.
     fn add_slave(
         &self,
         places: &mut Finder,
@@ -156,8 +156,8 @@ impl<'b, 'a> MaybeMovedTest<'b, 'a> {
         Ok(())
     }
 
-    /// Adds those of a declared group's slaves, from a rank on, to those of the slaves with lower ranks.
-    /// The slaves with other ranks than the given ones are passed over.
+    /// Adds the candidates of a declared group's slaves, from a rank on, to those of the slaves with lower ranks. It skips the
+    /// slaves whose ranks are not among the given ones. Fails with `AllocError` if an allocation fails.
     fn add_group(
         &self,
         places: &mut Finder,
@@ -199,7 +199,8 @@ impl<'b, 'a> MaybeMovedTest<'b, 'a> {
         Ranks::of(first, first + slaves as u16 - 1)
     }
 
-    /// Ranks with those of the slaves that have areas in datagrams of a task which aren't kept up to them.
+    /// Returns ranks that include the given ones, and those of the slaves with areas in datagrams of a task that are not kept
+    /// up to them.
     fn with_recut(&self, ranks: Ranks, task: Task) -> Ranks
         ensures own { HoldRanks result.low result.high ranks.low ranks.high }
         ensures recut { HoldRecut self.now task result.low result.high }
@@ -232,8 +233,8 @@ impl<'b, 'a> MaybeMovedTest<'b, 'a> {
         ranks
     }
 
-    /// The candidates, which are all of slaves with these ranks, in line and record order, by the declared groups
-    /// before the edit. Only the groups of such slaves are gone over.
+    /// Returns the candidates in line and record order, from the declared groups before the edit. All candidates are of slaves
+    /// with these ranks, and it goes over the groups of such slaves only. Fails with `AllocError` if an allocation fails.
     fn all(
         &self,
         alloc: Global,
@@ -260,10 +261,10 @@ impl<'b, 'a> MaybeMovedTest<'b, 'a> {
     }
 }
 
-/// The areas of the line after an edit that may be configured in another way than before it, by what the
-/// edit makes of the line, what was known of the tasks before they were turned, and the turned tasks: those
-/// of the slaves that the edit concerns, and those that are in datagrams which aren't kept up to them, in
-/// line and record order, each with its place. `AllocError` where a growth was refused.
+/// Returns the areas of the line after an edit that may be configured in another way than before it, in line and record order,
+/// each with its place. They are the areas of the slaves that the edit concerns, and those in datagrams that are not kept up to
+/// them. It reads the edited line, the state of the tasks before they were turned, and the turned tasks. Fails with
+/// `AllocError` if an allocation fails.
 pub fn maybe_moved_areas<'a>(
     alloc: Global,
     edited_line: &EditedLine<'a>,

@@ -1,6 +1,6 @@
-//! What an edit changes of a line's configuration, given by few areas: those of the slaves that it concerns,
-//! and those in datagrams that it doesn't keep. All other areas are configured as they were. The plan's reports
-//! and swaps are made from these.
+//! The changes of an edit to a line's configuration, given by few areas: those of the slaves that it concerns, and those in
+//! datagrams that it does not keep. All other areas are configured as they were. The plan's reports and swaps are made from
+//! these areas.
 #![tactic(auto)]
 
 pub mod edited_line;

@@ -1,10 +1,9 @@
-//! An area of a new line that may be configured in another way than in the old one.
+//! `MaybeMoved`: an area of a new line that may be configured in another way than in the old one.
 use hc_cuts::packing::Placed;
 use hc_records::records::Area;
 use std::marker::Model;
 
-/// An area that may be configured in another way: one of a slave that changes, or one in a datagram that
-/// isn't kept up to it.
+/// An area that may be configured in another way: one of a slave that changes, or one in a datagram that is not kept up to it.
 #[derive(Drop)]
 pub struct MaybeMoved<'a> {
     /// The station address of its slave.
@@ -15,7 +14,7 @@ pub struct MaybeMoved<'a> {
     pub index: u8,
     /// The area as it is after the edit.
     pub area: &'a Area,
-    /// Where it is then; none where it has 0 bits.
+    /// Its place after the edit; none if it has 0 bits.
     pub place: Option<Placed>,
 }
 

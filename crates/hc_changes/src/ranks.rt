@@ -1,11 +1,11 @@
-//! Ranks between which the slaves are whose areas an edit may configure in another way.
+//! `Ranks`: the ranks between which all slaves are whose areas an edit may configure in another way.
 ghost use Rattle.std.specs.Prelude.{◌≡◌};
 ghost use Rattle.hc_records.specs.declared.keys.Key.{Key};
 
 use hc_records::keys::Key;
 use hc_records::records::Dir;
 
-/// Ranks from one up to another, both among them; none where the second is lower.
+/// Ranks from one up to another, both among them; none if the second is lower.
 #[derive(Clone, Copy)]
 pub(crate) struct Ranks {
     pub(crate) low: u16,
@@ -24,7 +24,7 @@ impl Ranks {
         high: u16::MAX,
     };
 
-    /// Those from one up to another.
+    /// Returns the ranks from one up to another.
     pub(crate) fn of(low: u16, high: u16) -> Ranks
         ensures low { result.low ≡ low }
         ensures high { result.high ≡ high }
@@ -32,8 +32,8 @@ impl Ranks {
         Ranks { low, high }
     }
 
-    /// Those of the slaves that may have areas of a task from one key on and before another. Between an output
-    /// and an input they are all where the task has inputs, and else those from the output's slave on.
+    /// Returns the ranks of the slaves that may have areas of a task from one key on and before another. Between an output and
+    /// an input these are all ranks if the task has inputs, otherwise those from the output's slave on.
     pub(crate) fn between(from: Key, to: Key, inputs: bool) -> Ranks
         ensures { (key : Key) → LiesBetween from to inputs key → (result.low ≤ key.rank) × (key.rank ≤ result.high) }
     {
@@ -44,7 +44,7 @@ impl Ranks {
         }
     }
 
-    /// These, others, and those between them.
+    /// Returns these ranks, the others, and those between them.
     pub(crate) fn joined(self, other: Ranks) -> Ranks
         ensures own { HoldRanks result.low result.high self.low self.high }
         ensures others { HoldRanks result.low result.high other.low other.high }
@@ -55,8 +55,8 @@ impl Ranks {
         }
     }
 
-    /// Which of so many slaves in a row, from a rank on, have ranks among these: those with an index from
-    /// one on and below another.
+    /// Returns the part of so many slaves in a row, from a rank on, whose ranks are among these: the index of the first of
+    /// them, and the index after the last.
     pub(crate) fn part(self, first: u16, slaves: usize) -> (usize, usize)
         ensures order { result.0 ≤ result.1 }
         ensures within { result.1 ≤ slaves }

@@ -1,4 +1,4 @@
-//! The variables that are elsewhere, appear or go with an edit.
+//! `changed_rows`: the variables that are elsewhere, appear or go with an edit.
 ghost use Rattle.std.specs.Prelude.{◌≡◌, ◌++◌, ◌==◌, All, IfOk, OnOk, map, None};
 ghost use Rattle.std.specs.List.{list_any};
 ghost use Rattle.hc_records.specs.Project.{entry_names};
@@ -14,7 +14,8 @@ use hc_records::records::{Area, Entry, VarId};
 use hc_records::task::Task;
 use std::alloc::{AllocError, Global};
 
-/// Adds the variables of a candidate with their places; none where it is nowhere.
+/// Adds the variables of a candidate with their places; none if the candidate has no place. Fails with `AllocError` if an
+/// allocation fails.
 fn add_candidate(rows: &mut Vec<(VarId, Place)>, candidate: &MaybeMoved) -> Result<(), AllocError>
     requires { IsInside candidate.now }
     ensures { OnOk result (rows.new.items ≡ rows.old.items ++ rows_of candidate.now) }
@@ -40,15 +41,15 @@ fn candidate_rows(
     Ok(rows)
 }
 
-/// Whether a variable is elsewhere in a table than at a place, or nowhere. It is looked for near the one
-/// before it.
+/// True if a variable has another place in a table than this one, or none. It is looked up near the one before it.
 fn is_new(old: &Places, near: &mut usize, variable: VarId, place: Place) -> bool
     ensures { result ≡ is_new_row old.now (variable, place) }
 {
     old.place_near(near, variable) != Some(place)
 }
 
-/// Adds those variables that aren't in a table where they are to be.
+/// Adds the variables that have another place in a table than their new one, or none. Fails with `AllocError` if an allocation
+/// fails.
 fn add_moved(
     rows: &mut Vec<ChangedRow>,
     old: &Places,
@@ -78,7 +79,7 @@ fn add_entry_variables(variables: &mut Vec<VarId>, entries: &[Entry]) -> Result<
     Ok(())
 }
 
-/// Adds those that an area's assigned PDOs carry.
+/// Adds the variables that an area's assigned PDOs carry.
 fn add_area_variables(variables: &mut Vec<VarId>, area: &Area) -> Result<(), AllocError>
     ensures { OnOk result (variables.new.items ≡ variables.old.items ++ area_variables_of area.now) }
 {
@@ -100,14 +101,14 @@ fn slave_variables(alloc: Global, areas: &[Area]) -> Result<Vec<VarId>, AllocErr
     Ok(variables)
 }
 
-/// Whether a variable is among others.
+/// True if a variable is among others.
 fn is_among(variable: VarId, variables: &[VarId]) -> bool
     ensures { result ≡ list_any (λ other. other == variable) variables.now }
 {
     variables.iter().any(|other| *other == variable)
 }
 
-/// Adds the variables before that aren't among those after, each with the index of its row in a table.
+/// Adds the variables of `before` that are not in `after`, each with the index of its row in a table.
 fn add_gone(
     rows: &mut Vec<ChangedRow>,
     old: &Places,
@@ -126,7 +127,7 @@ fn add_gone(
     Ok(())
 }
 
-/// Adds the variables that a slave's areas carried and don't carry any more.
+/// Adds the variables that a slave's areas carried and carry no longer.
 fn add_slave(
     alloc: Global,
     rows: &mut Vec<ChangedRow>,
@@ -141,7 +142,7 @@ fn add_slave(
     add_gone(rows, old, &carried, &carries)
 }
 
-/// Adds those of the slaves that change.
+/// Adds the variables that the areas of the changed slaves carried and carry no longer, slave by slave.
 fn add_slaves(
     alloc: Global,
     rows: &mut Vec<ChangedRow>,
@@ -162,11 +163,11 @@ fn add_slaves(
     Ok(())
 }
 
-/// What an edit changes of the places of a line's variables, by its candidates, what differs in the line, and the table
-/// of the line before the edit: the candidates' variables that were elsewhere or nowhere, each with its new place, and
-/// then the variables that the slaves that change carried and don't carry any more, without one. For an edit's own
-/// candidates they are the variables that are elsewhere, appear or go with the edit, each once. Each candidate's place
-/// lies in one of 16 datagrams. `AllocError` where a growth was refused.
+/// Returns the changes of an edit to the places of a line's variables, from its candidates, the differences in the line, and
+/// the table of the line before the edit. First come the candidates' variables that had another place or none, each with its
+/// new place. After them come the variables that the changed slaves carried and carry no longer, without a place. For an edit's
+/// own candidates these are the variables that are elsewhere, appear or go with the edit, each once. Each candidate's place
+/// lies in one of 16 datagrams. Fails with `AllocError` if an allocation fails.
 pub fn changed_rows(
     alloc: Global,
     old: &Places,

@@ -1,5 +1,5 @@
-//! The tasks whose tables an edit changes. What a kept datagram holds is in the old table; the areas of
-//! each other one are gone over.
+//! `changed_tasks`: the tasks whose tables an edit changes. The use of a kept datagram is in the old table; the areas of every
+//! other datagram are gone over.
 ghost use Rattle.std.specs.Prelude.{◌≡◌, IfOk, length, map};
 ghost use Rattle.hc_records.specs.declared.limits.TheConstants.{TASKS};
 ghost use Rattle.hc_records.specs.Image.{task_places, tasks};
@@ -18,7 +18,8 @@ use hc_records::limits::TASKS;
 use hc_records::task::Task;
 use std::alloc::{AllocError, Global};
 
-/// What a datagram of a task of the new line holds: a kept one what it held.
+/// Returns the use of a datagram of a task of the new line; a kept datagram has the use that it had. Fails with `AllocError` if
+/// an allocation fails.
 fn datagram_use_in(
     alloc: Global,
     cuts: &LineCuts,
@@ -38,7 +39,8 @@ fn datagram_use_in(
     Ok(DatagramUse::of(areas.as_slice(), number))
 }
 
-/// The table of a task of the new line: the old one's, where no width differs in the task.
+/// Returns the table of a task of the new line: the old one if no width differs in the task. Fails with `AllocError` if an
+/// allocation fails.
 fn new_table(
     alloc: Global,
     cuts: &LineCuts,
@@ -82,11 +84,10 @@ fn new_tables(
     Ok(tables)
 }
 
-/// The tasks whose tables an edit changes, with their new ones, in the order of their numbers: from the trees of
-/// the new line, the old line's table, and what was known of its tasks before they were turned. A task where no
-/// width differs keeps its table, and what a kept datagram holds is in the old table; the areas of each other one
-/// are gone over.
-/// `AllocError` where a growth was refused.
+/// Returns the tasks whose tables an edit changes, with their new ones, in the order of their numbers. It reads the trees of
+/// the new line, the old line's table, and the state of its tasks before they were turned. A task in which no width differs
+/// keeps its table. The use of a kept datagram is in the old table; the areas of every other datagram are gone over. Fails with
+/// `AllocError` if an allocation fails.
 pub fn changed_tasks(
     alloc: Global,
     cuts: &LineCuts,

@@ -1,4 +1,4 @@
--- How many changes an arrival adds: one for each good answer.
+-- The number of changes that an arrival adds is the number of its good answers.
 use Rattle.std.proofs.Common.{◌≡◌, ℕ, ◌+◌, cond, List, [], ◌∷◌, length, map, refl, sym, ap, ◌∙◌, arith, length-append}
 use Rattle.std.specs.Prelude.{count_by}
 use Rattle.std.proofs.lemmas.List.{length-map}
@@ -16,7 +16,7 @@ use Rattle.hc_events.specs.Steps.{inputs_of, outcome_for, outcome_of, judged_ans
 use Rattle.hc_core.specs.GoodAnswers.{is_inputs}
 use Rattle.hc_core.proofs.AnswerGiven.{are-inputs}
 
--- a judged datagram is counted once where it is a good answer, and not else
+-- a judged datagram counts as one if it is a good answer, and otherwise not
 item_counted : (item : Item) (bytes : List ℕ) → length (new_answer_item item bytes) ≡ cond (is_inputs (inputs_of item)) 1 0
 item_counted (Datagram task d) bytes = refl
 item_counted (Block station number) bytes = refl

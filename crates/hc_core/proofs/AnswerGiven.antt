@@ -1,4 +1,4 @@
--- What the answer to an arrival says of what it answers.
+-- The answer to an arrival fits the kind of the awaited sending.
 use Rattle.std.proofs.Common.{◌≡◌, ◌⊎◌, ℕ, Bool, true, false, cond, not, ◌&&◌, ◌||◌, List, [], ◌∷◌, ◌++◌, map, refl, sym, ap, ◌∙◌, Option, Some, None, ⊎_elim, rules}
 use Rattle.std.specs.Prelude.{option_and_then}
 use Rattle.std.specs.List.{flat_map, list_all, list_any, zip}
@@ -87,7 +87,7 @@ same_outcomes a b e = cc
 not_answered : (verdict : Verdict) (outcomes : List Outcome) → write_answer verdict ≡ answer.Answered outcomes → ⊥
 not_answered verdict outcomes e = search rules
 
--- where a list of datagrams is answered so, it has updates, its first one is a task's, and these are the
+-- if a list of datagrams is answered with `Answered`, one of them is current, the first one is a task's, and these are the
 -- outcomes
 pub record AreInputs (datagrams : List Judged) (outcomes : List Outcome) : Type 0 where
   pub updates : list_any is_current datagrams ≡ true
@@ -115,7 +115,7 @@ are-inputs (datagram ∷ datagrams) outcomes e =
     record { updates = u; first = datagram; rest = datagrams; split = refl; plain = t; answer_given = sym (same_outcomes _ outcomes same) })
     (λ u. let never : answer.Stale ≡ answer.Answered outcomes = rw (t, u) at e in cc))
 
--- of a sending whose datagrams begin with a task's no datagram is a block
+-- no datagram of a sending is a block if the first one is a task's
 
 plain_first : (since : List HistoryEntry) (heads : List Head) (parts : List Part) (first : Judged) (rest : List Judged) → map (judge since) (zip heads parts) ≡ first ∷ rest → is_block first.head.item ≡ false
     → all_blocks heads ≡ true → ⊥

@@ -1,4 +1,4 @@
--- What is kept of the areas once blocks are sent and once they are answered.
+-- The state of the areas once blocks are sent and once they are answered.
 use Rattle.std.proofs.Common.{◌≡◌, ℕ, ◌*◌, ◌<◌, true, false, cond, Bool, List, [], ◌∷◌, length, sym, ap, ◌∙◌, subst, arith, Option, Some, None}
 use Rattle.std.specs.Prelude.{All, option_map, slice_get}
 use Rattle.std.proofs.lemmas.List.{length-map}

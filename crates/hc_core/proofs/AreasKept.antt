@@ -1,4 +1,4 @@
--- What is kept of the areas stays right after each entry.
+-- The state of the areas stays right after each entry.
 use Rattle.std.proofs.Common.{◌≡◌, ℕ, ◌==◌, Bool, true, false, cond, ◌&&◌, ◌||◌, List, [], ◌∷◌, map, refl, sym, ap, ◌∙◌, subst, Option, Some, None}
 use Rattle.std.specs.Prelude.{All, is_some, option_map}
 use Rattle.std.specs.Option.{option_map_or}
@@ -46,7 +46,7 @@ use Rattle.hc_core.proofs.Known.{are_done, are_named, configured_bytes, confirms
 pub same-hold : (a b : MayHold) → a ≡ b → HoldAlike a b
 same-hold a b same = record { unknown = ap (λ (held : MayHold). held.unknown) same; names = λ task. ap (names_among task) same }
 
--- what is kept is right for a record that says the same
+-- the state of the areas is right for a record that says the same
 pub areas-alike : (areas : List JudgedArea) (known : Knowledge) (held : Holdings) (unplugged : ℕ → Bool) (next : History) → areas ≡ readiness_of known held unplugged (state_of next)
     → ((station number : ℕ) → known station number ≡ known_bytes next station number) → ((station number : ℕ) → HoldAlike (held station number) (may_hold next station number))
     → ((station : ℕ) → unplugged station ≡ is_unplugged next station) → areas ≡ areas_of next

@@ -1,4 +1,4 @@
--- What is kept stays right after each arrival.
+-- The parts of a core stay right after each arrival.
 use Rattle.std.proofs.Common.{◌≡◌, ℕ, ◌<◌, ◌≤◌, arith, ◌==◌, true, false, cond, Option, List, [], ◌∷◌, ◌++◌, find, map, refl, sym, ap, ◌∙◌, subst, Some, None, rules}
 use Rattle.std.specs.Prelude.{All, fold, option_map}
 use Rattle.std.specs.List.{list_any, zip}
@@ -56,7 +56,7 @@ use Rattle.hc_core.specs.Chosen.{AreWriteOutcomes, CanConfirm, IsAwaitedAt, know
 use Rattle.hc_core.specs.Held.{CanConfirmAreas, held_done}
 use Rattle.hc_core.specs.Waits.{Waits}
 
--- a stale one
+-- a stale arrival
 
 pub none-new_answer : (history : History) (arrival : Arrival) → is_stale_to history arrival ≡ true → new_answer_by history arrival ≡ []
 none-new_answer history arrival stale = search (rules, good_answers-of_updates, not-true)
@@ -88,7 +88,7 @@ all_sent (Opened groups ∷ history) all = tt
 all_sent (Sent frame ∷ history) all = (all.0.in_line, all_sent history all.1)
 all_sent (other ∷ history) all = all_sent history all.1
 
--- one that answers a frame of tasks
+-- an arrival that answers a frame of tasks
 
 held_framed : (history : History) (arrival : Arrival) (sending : Sending) → awaited history arrival.serial ≡ Some sending → is_write_sending sending ≡ false
     → (station number : ℕ) → may_hold history station number ≡ may_hold (Came arrival ∷ history) station number
@@ -124,7 +124,7 @@ agree-inputs unchanged history taken arrival outcomes inputs ages epoch shows no
   shows = updates-came taken history arrival unchanged.changes (good_answers_in outcomes arrival.parts) shows.good_answers (new_answer-fits IsInLine history arrival (all_sent history agree.accepted)) agree.shows;
 }
 
--- one that answers a frame of register writes
+-- an arrival that answers a frame of register writes
 
 -- the write that is kept with the arrival's serial is the one that is awaited
 
@@ -188,7 +188,7 @@ placed-with history unchanged arrival waits with =
 pub blocks-with : (history : History) (unchanged : Waiting) (arrival : Arrival) (with : IsUnchangedWith history unchanged arrival) → blocks_with arrival.serial unchanged ≡ with.write.blocks
 blocks-with history unchanged arrival with = ap (λ found. option_map_or (λ (write : AwaitedWrite). write.blocks) found []) with.found
 
--- so they can be confirmed
+-- the blocks of the awaited write can be confirmed
 abbrev pub can-confirm : (unchanged : CoreParts) (history taken : History) (arrival : Arrival) (shown : List AwaitedBlock) (with : IsUnchangedWith history unchanged.awaited arrival) → shown ≡ with.write.blocks → Agree unchanged history taken → CanConfirm unchanged.owed unchanged.plan shown
 can-confirm unchanged history taken arrival shown with same agree = record {
   known = known_bytes history;
@@ -199,7 +199,7 @@ can-confirm unchanged history taken arrival shown with same agree = record {
   placed = subst (All (IsAwaitedAt (state_of history))) (sym same) (placed-with history unchanged.awaited arrival agree.waits with);
 }
 
--- and so can their areas
+-- the areas of the awaited write's blocks can be confirmed
 abbrev pub can-confirm_areas : (unchanged : CoreParts) (history taken : History) (arrival : Arrival) (shown : List AwaitedBlock) (with : IsUnchangedWith history unchanged.awaited arrival) → shown ≡ with.write.blocks → Agree unchanged history taken
     → CanConfirmAreas unchanged.readiness shown
 can-confirm_areas unchanged history taken arrival shown with same agree = record {

@@ -1,4 +1,5 @@
--- What is kept as awaited stays what the record awaits: at the opening, and after each entry but frames of tasks.
+-- The awaited frames and writes of a core stay those that the record awaits: at the opening, and after each entry but frames of
+-- tasks.
 use Rattle.std.proofs.Common.{◌≡◌, ℕ, ◌<◌, ◌==◌, Bool, true, false, not, List, [], ◌∷◌, ◌++◌, filter, length, map, refl}
 use Rattle.std.specs.Prelude.{All}
 use Rattle.std.proofs.lemmas.List.Elements.{All-append, All-cons, All-filter, All-head, All-map, All-nil, All-tail, All-weaker}

@@ -63,7 +63,7 @@ mapped-shrink f a b (low, whole) =
     let more = length-map b f in
     (omega (arith, less, more, low), λ same. ap (map f) (whole (omega (arith, same, less, more))))
 
--- the areas in a task, where one of them changes
+-- the areas in a task, if one of them changes
 
 abbrev own : ℕ → List (ℕ × Area) → List (ℕ × Area)
 own t = filter (λ (e : ℕ × Area). is_in_task t e.1)
@@ -108,7 +108,7 @@ slaves-shrink t s n rank f g (slave ∷ slaves) stays =
     (areas_in_task t (members_from (rank + 1) (map (with_area s n f) slaves))) (areas_in_task t (members_from (rank + 1) (map (with_area s n g) slaves)))
     (slave-shrinks t s n rank f g slave stays) (slaves-shrink t s n (rank + 1) f g slaves stays)
 
--- the line, where each declared group changes
+-- the line, if each declared group changes
 
 abbrev of-group : ℕ → ℕ → Declared → List (ℕ × (ℕ × (ℕ × Area)))
 of-group t rank declared = areas_in_task t (members_from rank (present_slaves declared))
@@ -370,7 +370,7 @@ module _ (history : History) (edit : Edit) (new : State) (project : lowest_fault
           choose None none = absurd (never-out t low changed (λ area found. let never : None ≡ Some area = sym none ∙ found in cc))
           choose (Some area) at = sym (its-task area at t low changed) ∙ its-task area at u low' changed'
 
-  -- so the tasks of the changed blocks are all that are changed, unless there is none and the edit is a remap
+  -- the tasks of the changed blocks are all changed tasks, unless there is none and the edit is a remap
   pub by-set : (blocks : TaskSet) → ((t : ℕ) → t < 8 → has_task t blocks ≡ changes_blocks (state_of history) new t) → (remaps edit ≡ false) ⊎ (((t : ℕ) → t < 8 → has_task t blocks ≡ false) → ⊥)
       → (t : ℕ) → t < 8 → has_task t blocks ≡ changes_task (state_of history) new t
   by-set blocks has which t low = both-ways (has_task t blocks) (changes_task (state_of history) new t) (changes t low) (back which)

@@ -77,7 +77,7 @@ differs-said a b now = by (same_found a b)
     by true is = cc
     by false is = (refl, same_Some b now is)
 
--- a changed row's variable lies in a task before or after, where the row says so
+-- a changed row's variable lies in a task before or after, if the row says so
 row-test : (old new : Table) (change : Change) (task : ℕ) (row : ChangedRow) → place_in new row.0 ≡ row.1 → row_lies old task row ≡ (lies_in_task task (place_in old row.0) || lies_in_task task (place_in new row.0))
 row-test old new change task row is = ap (λ (place : Option VariablePlace). lies_in_task task (place_in old row.0) || lies_in_task task place) (sym is)
 

@@ -1,4 +1,4 @@
--- Which owed blocks a frame carries, and what is kept once they are sent and once they are answered.
+-- The owed blocks that a frame carries, and the knowledge of registers once they are sent and once they are answered.
 use Rattle.std.proofs.Common.{◌≡◌, ℕ, zero, suc, ◌+◌, ◌<◌, ◌≤◌, Bool, true, false, cond, not, List, [], ◌∷◌, ◌++◌, filter, length, map, take, refl, sym, ap, ◌∙◌, subst, arith, append_assoc, Option, Some, None, rules}
 use Rattle.std.specs.Prelude.{All, Contains, option_map, option_to_list, slice_get}
 use Rattle.std.specs.Option.{option_map_or}
@@ -44,7 +44,7 @@ take_none (suc n) (x ∷ xs) none = cc
 no_more : (n : ℕ) → n ≡ n + 0
 no_more n = omega arith
 
--- none joins where none may, none is left, or the next one has no room
+-- no block joins if none may, if none is left, or if the next one has no room
 pub chosen-none : (source : Source) (state : State) (place most : ℕ) (frame : WriteFrame) → take most (blocks_beside frame.bytes (source place)) ≡ [] → IsChosenFrom source state place most frame frame
 chosen-none source state place most frame none = record {
   blocks = sym (append-nil (map block_of frame.blocks)) ∙ ap (λ more. map block_of frame.blocks ++ more) (sym none);

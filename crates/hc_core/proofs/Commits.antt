@@ -1,4 +1,4 @@
--- What a commit asks of the present proposal, and what is kept after it.
+-- The precondition of a commit holds of the present proposal, and the core agrees with the record after it.
 use Rattle.std.proofs.Common.{◌≡◌, ℕ, ◌+◌, ◌<◌, ◌≤◌, ◌⊎◌, inl, inr, false, not, nat_lt, List, [], ◌∷◌, length, map, sym, ◌∙◌, subst, arith, None, rules}
 use Rattle.std.specs.Prelude.{All, AllPairs}
 use Rattle.std.specs.List.{range_with_len}

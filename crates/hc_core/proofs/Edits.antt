@@ -1,4 +1,4 @@
--- What is kept stays right after an accepted edit.
+-- The parts of a core stay right after an accepted edit.
 use Rattle.std.proofs.Common.{◌≡◌, ℕ, ◌+◌, ◌*◌, ◌<◌, Bool, cond, ap₂, List, [], ◌∷◌, ◌++◌, length, refl, sym, ap, ◌∙◌, subst, append_assoc, length-append, None, Option, Vec, Global, rules}
 use Rattle.std.specs.Prelude.{Contains, Err, IfSome, Ok, Result, vec_capacity}
 use Rattle.std.specs.Result.{result_unwrap_or}

@@ -1,4 +1,4 @@
--- Which frames can be filled, and what `fill` asks for.
+-- The frames that can be filled meet the precondition of `fill`.
 use Rattle.std.proofs.Common.{◌≡◌, ℕ, ◌+◌, ◌<◌, ◌≤◌, inl, inr, not, List, [], ◌∷◌, length, map, refl, sym, ap, ◌∙◌, subst, arith, Option, None, rules}
 use Rattle.std.specs.Prelude.{All, IfSome, OnOk, Result, sum_by}
 use Rattle.std.specs.List.{flat_map, list_any, range_with_len}

@@ -117,7 +117,7 @@ can-mark unchanged history taken placed shown same agree write at = record {
   lacking = subst (All (λ (one : PlacedBlock). lacks (known_bytes history) one.block ≡ true)) (sym same) (all-lacking history placed write);
 }
 
--- and so can their areas
+-- the areas of the first owed blocks can be marked
 abbrev pub can-mark_areas : (unchanged : CoreParts) (history taken : History) (placed shown : List PlacedBlock) → shown ≡ placed → Agree unchanged history taken → IsWrite history (map block_of placed) → All (IsLineBlock (state_of history)) placed
     → CanMarkAreas unchanged.readiness shown
 can-mark_areas unchanged history taken placed shown same agree write at = record {

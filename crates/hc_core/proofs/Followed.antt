@@ -1,4 +1,4 @@
--- What is kept of the register blocks and of the areas after an edit that is prepared.
+-- The state of the register blocks and of the areas after an edit that is prepared.
 use Rattle.std.proofs.Common.{◌≡◌, ℕ, ◌+◌, ◌*◌, ◌<◌, ◌≤◌, Bool, false, List, ◌||◌, length, map, sym, ap, ◌∙◌, subst, length-append, Option, Some, None, arith}
 use Rattle.std.specs.Prelude.{AllPairs, Contains, Ok, not}
 use Rattle.std.proofs.lemmas.Bool.{or_parts}

@@ -26,7 +26,7 @@ use Rattle.hc_core.specs.Agreement.{Agree, CoreParts}
 use Rattle.hc_core.proofs.AreasKept.{same-hold}
 use Rattle.hc_core.proofs.Edits.{after-is, new-project}
 
--- nothing is known of a slave that came: where nothing was written to it since it came, nothing was once it is cleared
+-- nothing is known of a slave that came: if nothing was written to it since it came, nothing was once it is cleared
 
 unwritten-or : (b : Bool) (write : Option (ℕ × List ℕ)) → write ≡ None → cond b None write ≡ None
 unwritten-or true write is = refl

@@ -1,4 +1,4 @@
--- What is kept stays right after a slave that was forgotten, and when that is refused.
+-- The parts of a core stay right after a slave was forgotten, and the faults of forgetting are those of the event.
 use Rattle.std.proofs.Common.{◌≡◌, ℕ, ◌+◌, Bool, true, false, cond, not, ◌||◌, List, [], ◌∷◌, length, refl, sym, ap, ◌∙◌, Option, Some, None}
 use Rattle.std.specs.Prelude.{find, is_none, is_some, position, IfErr, IsErrAnd, Result, Ok, Err}
 use Rattle.std.specs.List.{list_any, position_from}
@@ -61,7 +61,7 @@ declared_any station rank (declared ∷ groups) e =
     (λ t. or_right (has_station station declared.group.slaves) (list_any (λ (one : Declared). has_station station one.group.slaves) groups)
     (declared_any station (rank + length declared.group.slaves) groups (member-by (list_any (is_at station) own) (list_any (is_at station) rest) either t)))
 
--- it has a position just where it is found
+-- a slave has a position exactly if it is found
 
 found_if : (passes : Bool) (test : Member → Bool) (member : Member) (members : List Member) → is_some (find test members) ≡ list_any test members → is_some (cond passes (Some member) (find test members)) ≡ (passes || list_any test members)
 found_if true test member members rest = refl
@@ -88,7 +88,7 @@ some_or_none : {X : Type 0} (found : Option X) → is_none found ≡ not (is_som
 some_or_none None = refl
 some_or_none (Some x) = refl
 
--- so the plan refuses its position as the event is refused
+-- the plan refuses a slave's position as the event is refused
 
 abbrev faults_by : Bool → Bool → List (Bool × CoreFault)
 faults_by declared present = (not declared, UnknownStation) ∷ (not present, Absent) ∷ []

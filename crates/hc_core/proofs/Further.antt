@@ -1,4 +1,4 @@
--- When further owed blocks are sent, and what is answered then.
+-- The sending of further owed blocks: its faults, its answer, and its entry in the record.
 use Rattle.std.proofs.Common.{◌≡◌, ℕ, ◌+◌, ◌<◌, ◌≤◌, ◌==◌, nat_lt, Bool, true, false, not, List, [], ◌∷◌, ◌++◌, drop, length, length-append, map, take, refl, sym, ap, ◌∙◌, subst, arith, suc, inr, Option, Some, None}
 use Rattle.std.specs.Prelude.{is_some}
 use Rattle.std.proofs.lemmas.List.{length-drop, take-append-le}

@@ -29,7 +29,7 @@ good_answers-short outcomes parts none = ap (λ all. good_answers_in outcomes (p
 pub good_answers-over : (outcomes : List Outcome) (i : ℕ) (parts : List ArrivedDatagram) → length outcomes ≤ i → good_answers_in (drop i outcomes) (parts_without_places parts) ≡ []
 good_answers-over outcomes i parts over = ap (λ all. good_answers_in all (parts_without_places parts)) (drop_all i outcomes over)
 
--- where a good answer fits, its datagram is one that tasks can have
+-- if a good answer fits, its datagram is one that tasks can have
 pub input-fits : (outcome : Outcome) (task d : ℕ) (part : Part) → outcome ≡ Inputs task d → All FitsImage (good_of outcome part) → FitsImage (record { task = task; datagram = d; bytes = part.bytes })
 input-fits outcome task d part is all =
     All-head FitsImage (record { task = task; datagram = d; bytes = part.bytes }) [] (subst (λ one. All FitsImage (good_of one part)) is all)

@@ -1,4 +1,4 @@
--- Which bytes blocks are known to have, after each entry.
+-- The bytes that blocks are known to have, after each entry.
 use Rattle.std.proofs.Common.{◌≡◌, ℕ, ◌==◌, Bool, true, false, cond, ◌&&◌, ◌||◌, List, [], ◌∷◌, map, refl, sym, ap, ◌∙◌, Option, Some, None, rules}
 use Rattle.std.specs.Prelude.{is_some, option_and_then, option_map}
 use Rattle.std.specs.Option.{option_or}

@@ -1,4 +1,4 @@
--- What a task reads of a datagram is its last good answer.
+-- The data that a task reads of a datagram are those of its last good answer.
 use Rattle.std.proofs.Common.{◌≡◌, ◌⊎◌, inl, inr, ℕ, zero, suc, ◌+◌, ◌<◌, ◌==◌, Bool, true, false, cond, ◌&&◌, ◌||◌, List, [], ◌∷◌, ◌++◌, length, map, slice_get, refl, sym, ap, ◌∙◌, subst, arith, Option, Some, None, rules}
 use Rattle.std.specs.Prelude.{All, fold}
 use Rattle.std.specs.Option.{option_map_or}
@@ -257,13 +257,13 @@ by_answer history arrival task d slot (Some sending) e =
 arrival_shows : (history : History) (arrival : Arrival) (task d : ℕ) (slot : Option (List ℕ)) → Shows history arrival task d slot (fold (renewed task d) slot (new_answer_by history arrival))
 arrival_shows history arrival task d slot = by_answer history arrival task d slot (answered_by history arrival) refl
 
--- the serial of a datagram's data is the arrival's where something in it is good
+-- the serial of a datagram's data is the arrival's if something in the arrival is good
 serial_renewed : (history : History) (arrival : Arrival) (task d : ℕ) (so_far : Option ℕ) (place : ℕ) (part : Part) → IsGoodIn history arrival task d place part
     → Shows history arrival task d None (fold (renewed task d) None (new_answer_by history arrival)) → fold (dated arrival.serial task d) so_far (new_answer_by history arrival) ≡ Some arrival.serial
 serial_renewed history arrival task d so_far place part good (inl renewal) = dated-renewed arrival.serial task d so_far renewal.part.bytes (new_answer_by history arrival) renewal.is
 serial_renewed history arrival task d so_far place part good (inr (same, none)) = absurd (none place part good)
 
--- and stays where nothing is
+-- the serial of a datagram's data stays if nothing in the arrival is good
 serial_left : (history : History) (arrival : Arrival) (task d : ℕ) (so_far : Option ℕ) → ((m : ℕ) (part : Part) → ¬ (IsGoodIn history arrival task d m part))
     → Shows history arrival task d None (fold (renewed task d) None (new_answer_by history arrival)) → fold (dated arrival.serial task d) so_far (new_answer_by history arrival) ≡ so_far
 serial_left history arrival task d so_far none (inl renewal) = absurd (none renewal.place renewal.part renewal.good)
@@ -310,7 +310,7 @@ popped entry history task d (first ∷ after_it) arrival before place part e pre
 pop : (entry : HistoryEntry) (history : History) (task d : ℕ) (answer : GoodAnswer (entry ∷ history) task d) → LastSent entry history answer.after_it answer.arrival answer.before ⊎ Older history task d answer.after_it answer.place
 pop entry history task d answer = popped entry history task d answer.after_it answer.arrival answer.before answer.place answer.part answer.came answer.present answer.good
 
--- none where an epoch begins
+-- there is no good answer at an entry that begins an epoch
 none_begun : (entry : HistoryEntry) (history : History) (after_it : List HistoryEntry) (arrival : Arrival) (before : History) → begins_epoch entry ≡ true → entry ∷ history ≡ after_it ++ Came arrival ∷ before → list_any begins_epoch after_it ≡ false → ⊥
 none_begun entry history [] arrival before begins e present = search rules
 none_begun entry history (first ∷ after_it) arrival before begins e present = search (rules, or_parts)

@@ -41,7 +41,7 @@ filter-alike {X} p q (x ∷ xs) all = search (rules, All-head, All-tail, filter-
 pub own-names : (history : History) → lowest_fault (groups_of (state_of history).groups) ≡ None → HasOwnNames (line_of history)
 own-names history project = λ a b in_a in_b same. one-name (line_of history) (project-distinct (state_of history).groups project) a b in_a in_b same
 
--- so a frame of writes leaves what is owed
+-- a frame of writes leaves the owed blocks
 
 wrote_alike : (history : History) (blocks : List LineBlock) (other : LineBlock) → HasOwnNames (line_of history) → IsWrite history blocks → Contains (line_blocks (line_of history)) other
     → is_owed (Wrote blocks ∷ history) other ≡ is_owed history other

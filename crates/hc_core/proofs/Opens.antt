@@ -1,4 +1,4 @@
--- What is kept at the opening is what the record of the opening says.
+-- The parts of a core at the opening agree with the record of the opening.
 use Rattle.std.proofs.Common.{◌≡◌, ℕ, ◌<◌, ◌≤◌, List, [], arith, None, rules}
 use Rattle.std.specs.Prelude.{slice_index}
 use Rattle.std.proofs.lemmas.List.{append-nil}

@@ -1,4 +1,4 @@
--- What is kept stays right after frames of tasks and register writes.
+-- The parts of a core stay right after frames of tasks and register writes.
 use Rattle.std.proofs.Common.{◌≡◌, ℕ, suc, ◌+◌, ◌<◌, ◌≤◌, ◌⊎◌, inl, inr, List, [], ◌∷◌, length, map, refl, sym, ap, ◌∙◌, subst, arith, None}
 use Rattle.std.specs.Prelude.{All}
 use Rattle.hc_records.specs.Edits.{over_limit_task}

@@ -1,4 +1,4 @@
--- What is kept as awaited stays what the record awaits after frames of tasks.
+-- The awaited frames of a core stay those that the record awaits after frames of tasks.
 use Rattle.std.proofs.Common.{◌≡◌, ℕ, ◌+◌, List, [], ◌∷◌, length, map, refl, sym, subst}
 use Rattle.std.specs.Prelude.{All}
 use Rattle.std.specs.List.{flat_map, range_with_len}

@@ -1,4 +1,4 @@
--- What a core's calls answer is what the event may be answered.
+-- The answers of a core's calls are answers that the event may have.
 use Rattle.std.proofs.Common.{◌≡◌, ◌≢◌, ℕ, List, [], ◌∷◌, ◌++◌, ap, true, inl, inr, Option, Some, None, rules}
 use Rattle.std.specs.Prelude.{IfErr, IfOk, IfSome, OnErr, OnOk, Result, Ok, Err, ◌⊎◌, option_map}
 use Rattle.hc_records.specs.declared.edit.Edit.{Edit}

@@ -1,4 +1,4 @@
--- What the input image shows of a task are its steady data.
+-- The data in the input image of a task are its steady data.
 use Rattle.std.proofs.Common.{◌≡◌, ℕ, zero, suc, ◌+◌, ◌<◌, ◌≤◌, map, refl, arith, rules}
 use Rattle.std.specs.List.{range_with_len}
 use Rattle.hc_records.specs.declared.limits.TheConstants.{MOST_DATAGRAMS, TASKS}

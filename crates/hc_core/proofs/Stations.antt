@@ -1,4 +1,4 @@
--- What is kept of the areas of a slave.
+-- The state of the areas of a slave.
 use Rattle.std.proofs.Common.{◌≡◌, ℕ, ◌+◌, ◌*◌, true, false, ◌<◌, ◌≤◌, List, length, sym, ap, ◌∙◌, arith, Some}
 use Rattle.std.specs.Prelude.{slice_get}
 use Rattle.std.proofs.lemmas.List.FromFn.{length-map-range_with_len}
@@ -26,7 +26,7 @@ pub kept-right : (unchanged : CoreParts) (history taken : History) → Agree unc
 kept-right unchanged history taken agree =
     record { right = agree.ready; project = agree.project; uncrowded = agree.uncrowded; plugged = λ station inside. plugged-line history station agree.accepted inside }
 
--- it has eight areas of each declared slave
+-- the state of the areas has eight areas for each declared slave
 pub areas-enough : (areas : List JudgedArea) (history : History) (station n : ℕ) → areas ≡ areas_of history → slice_get (stations (state_of history)) n ≡ Some station → 8 * n + 8 ≤ length areas
 areas-enough areas history station n right at =
     let long : length areas ≡ 8 * length (stations (state_of history)) =

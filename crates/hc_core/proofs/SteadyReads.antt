@@ -49,7 +49,7 @@ ages_by serial epoch task d before (good ∷ answers) =
     ages_by serial epoch task d (steadied serial epoch task d before good) answers
     ∙ ap (λ age. fold (aged (age_from serial epoch) task d) age answers) (one_age (is_for task d good) good.bytes serial epoch before)
 
--- and so are their ages
+-- the ages after an arrival are those of its good answers
 pub ages-after : (history : History) (arrival : Arrival) (epoch task d : ℕ) → epoch ≡ epoch_of history
     → steady_age (Came arrival ∷ history) task d ≡ fold (aged (record { serial = arrival.serial; epoch = epoch }) task d) (steady_age history task d) (new_answer_by history arrival)
 ages-after history arrival epoch task d same =

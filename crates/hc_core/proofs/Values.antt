@@ -83,7 +83,7 @@ data-sent history packed task d project uncrowded low is_placed holds =
     let few : d < MOST_DATAGRAMS = omega (arith, is_placed) in
     sent-there packed task d low few ∙ data-same history packed.sent task d project low few is_placed holds.sent
 
--- so a frame's text is the one that the record sends
+-- a frame's text is the one that the record sends
 
 carried_same : (history : History) (packed : Packed) (names : List Named) → lowest_fault (groups_of (state_of history).groups) ≡ None → over_limit_task (line_of history) ≡ None
     → All (λ named. named.0 < TASKS) names → All (IsInLine (line_of history)) names → HoldsValues history packed

@@ -1,4 +1,4 @@
--- When the first owed blocks are sent, and what is answered then.
+-- The sending of the first owed blocks: its faults, its answer, and its entry in the record.
 use Rattle.std.proofs.Common.{◌≡◌, ℕ, suc, ◌+◌, ◌<◌, ◌≤◌, ◌==◌, nat_lt, true, false, cond, not, List, [], ◌∷◌, ◌++◌, drop, length, take, refl, sym, ap, ◌∙◌, subst, arith, inl, inr, Option, Some, None, rules}
 use Rattle.std.specs.Prelude.{All, IfOk, OnOk, Result, Ok, Err}
 use Rattle.std.proofs.lemmas.Bool.Decides.{nat_tests}
@@ -57,7 +57,7 @@ frame_few history (block ∷ blocks) same = write-few history (block ∷ blocks)
 pub first-all : (history : History) → first_blocks FRAME_BLOCKS history ≡ frame_blocks (owed_blocks history)
 first-all history = take_all FRAME_BLOCKS (frame_blocks (owed_blocks history)) (frame_few history (frame_blocks (owed_blocks history)) refl)
 
--- they can be sent where the event isn't refused
+-- the first owed blocks can be sent if the event is not refused
 
 pub some-owed : (history : History) → lowest (write_faults history (owed_blocks history)) ≡ None → 0 < length (owed_blocks history)
 some-owed history none = owes (owed_blocks history) none

@@ -1,4 +1,4 @@
--- What the crates above cite, a file a subject.
+-- Lemmas that the crates above cite, a file for each subject.
 pub mod Arriving
 pub mod BlockSizes
 pub mod Crossing

@@ -1,4 +1,5 @@
--- How old the data are that tasks read, as a core keeps it: the serial of the sending and the epoch of the answer that brought them, for each datagram that a line can have, task by task.
+-- The ages of the data that tasks read, as a core stores them: the serial of the sending and the epoch of the answer, for each
+-- datagram that a line can have, task by task.
 use Rattle.std.specs.Prelude.{◌≡◌, ℕ, ◌*◌, ◌<◌, ◌==◌, ◌&&◌, if◌then◌else◌, List, fold, length, slice_index_or, Option, Some, None, option_map}
 use Rattle.hc_records.specs.declared.limits.TheConstants.{MOST_DATAGRAMS, TASKS}
 use Rattle.hc_records.specs.Slots.{slot_number}
@@ -20,7 +21,7 @@ AreWhole ages = length ages ≡ MOST_DATAGRAMS * TASKS
 abbrev pub age_of : Ages → ℕ → ℕ → Option DataAge
 age_of ages task d = slice_index_or ages (slot_number task d) None
 
--- no datagram has an age: so a project is opened
+-- no datagram has an age, as at the opening of a project
 abbrev pub HaveNone : Ages → Type 0
 HaveNone ages = (task d : ℕ) → age_of ages task d ≡ None
 
@@ -34,15 +35,16 @@ Undates old new task = (t e : ℕ) → e < MOST_DATAGRAMS → age_of new t e ≡
 
 -- by good answers
 
--- the age of a datagram's data once a good answer came: this one where the answer is of this datagram, else the age so far, if any
+-- the age of a datagram's data once a good answer came: this one if the answer is of this datagram, otherwise the age before
+-- it, if any
 abbrev pub aged : DataAge → ℕ → ℕ → Option DataAge → NewAnswer → Option DataAge
 aged age task d so_far good = if is_for task d good then Some age else so_far
 
--- each datagram has the age that it has once these good answers came, one after another, to one sending and in one epoch
+-- each datagram has the age that it has once these good answers came one after another, all to one sending and in one epoch
 abbrev pub AreAged : DataAge → List NewAnswer → Ages → Ages → Type 0
 AreAged age answers old new = (task d : ℕ) → d < MOST_DATAGRAMS → age_of new task d ≡ fold (aged age task d) (age_of old task d) answers
 
--- and each has the data that it has then
+-- each datagram has the data that it has once these good answers came one after another
 abbrev pub AreRenewed : List NewAnswer → DatagramImage → DatagramImage → Type 0
 AreRenewed answers old new = (task d : ℕ) → d < MOST_DATAGRAMS → data_of new task d ≡ fold (renewed task d) (data_of old task d) answers
 

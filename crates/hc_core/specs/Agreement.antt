@@ -1,4 +1,4 @@
--- What a core keeps, by the history of what it accepted.
+-- The parts of a core, and their agreement with the history of accepted events.
 use Rattle.std.specs.Prelude.{◌≡◌, ℕ, ◌≤◌, List, None}
 use Rattle.hc_records.specs.Line.{State, groups_of}
 use Rattle.hc_records.specs.Edits.{over_limit_task}
@@ -37,7 +37,7 @@ pub record CoreParts : Type 0 where
   pub readiness : List JudgedArea
   pub changes : List Change
 
--- each part says what the record says
+-- each part agrees with the record
 pub record Agree (parts : CoreParts) (history taken : History) : Type 0 where
   pub accepted : AreAccepted history
   pub state : parts.plan ≡ state_of history
@@ -54,11 +54,11 @@ pub record Agree (parts : CoreParts) (history taken : History) : Type 0 where
   pub ready : parts.readiness ≡ areas_of history
   pub shows : ShowUpdates taken history parts.changes
 
--- what contracts see of a core
+-- the state of a core that contracts see
 abbrev pub state_in : Inside → CoreState
 state_in core = record { history = history_read core.history; taken = history_read core.taken.value }
 
--- what a core keeps beside the two records: its parts, and the changes that weren't taken yet
+-- the parts of a core beside the two records, the changes that were not taken among them
 abbrev pub core_parts : Inside → CoreParts
 core_parts core = record {
   plan = core.plan;
@@ -73,6 +73,6 @@ core_parts core = record {
   changes = core.changes.items;
 }
 
--- what holds of every core: its parts agree with its record, and with that record as it was when the changes were last taken
+-- the invariant of a core: its parts agree with its record, and with that record as it was when the changes were last taken
 abbrev pub Agrees : Inside → Type 0
 Agrees core = Agree (core_parts core) (history_read core.history) (history_read core.taken.value)

@@ -1,4 +1,4 @@
--- The tasks that an edit changes, and what becomes of their data and of their epochs.
+-- The tasks that an edit changes, and the edit's effect on their data and their epochs.
 use Rattle.std.specs.Prelude.{◌≡◌, ◌==◌, ◌&&◌, ◌||◌, ℕ, ◌<◌, if◌then◌else◌, Bool, true, false, List, slice_index, None}
 use Rattle.std.specs.List.{list_any}
 use Rattle.hc_records.specs.declared.edit.Edit.{Edit}
@@ -26,7 +26,7 @@ has_table change task = list_any (λ (changed : ChangedTask). changed.0 == task)
 abbrev pub row_lies : Table → ℕ → ChangedRow → Bool
 row_lies table task changed = lies_in_task task (place_in table changed.0) || lies_in_task task changed.1
 
--- so it is with one of a change's variables
+-- one of a change's variables has its old place or its new one in a task
 abbrev pub has_place : Table → Change → ℕ → Bool
 has_place table change task = list_any (row_lies table task) change.rows
 
@@ -53,13 +53,13 @@ HasTasksOfBlocks edit blocks = (task : ℕ) → task < TASKS → has_task task b
 abbrev pub HasChangedTasks : PreparedEdit → TaskSet → Type 0
 HasChangedTasks edit changed = (task : ℕ) → task < TASKS → has_task task changed ≡ changes_task edit.old edit.new task
 
--- what becomes of them
+-- the effect on the data, the ages and the epochs of tasks
 
 -- if a task is changed, its datagrams have no data from then on; each other datagram keeps what it had
 abbrev pub EmptiesIf : Bool → ℕ → DatagramImage → DatagramImage → Type 0
 EmptiesIf changed task old new = (t d : ℕ) → d < MOST_DATAGRAMS → data_of new t d ≡ (if changed && (task == t) then None else data_of old t d)
 
--- and they have no age
+-- if a task is changed, its datagrams have no age from then on; each other datagram keeps its own
 abbrev pub UndatesIf : Bool → ℕ → Ages → Ages → Type 0
 UndatesIf changed task old new = (t d : ℕ) → d < MOST_DATAGRAMS → age_of new t d ≡ (if changed && (task == t) then None else age_of old t d)
 
@@ -68,7 +68,7 @@ abbrev pub EmptiesTasks : TaskSet → DatagramImage → DatagramImage → Type 0
 EmptiesTasks changed old new =
     (task d : ℕ) → task < TASKS → d < MOST_DATAGRAMS → data_of new task d ≡ (if has_task task changed then None else data_of old task d)
 
--- it has no age either
+-- each datagram of a task in the set has no age from then on, and each of another task keeps its own
 abbrev pub UndatesTasks : TaskSet → Ages → Ages → Type 0
 UndatesTasks changed old new = (task d : ℕ) → task < TASKS → d < MOST_DATAGRAMS → age_of new task d ≡ (if has_task task changed then None else age_of old task d)
 

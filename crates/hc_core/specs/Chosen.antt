@@ -1,4 +1,5 @@
--- The owed blocks that a frame carries, by what is kept of the line's blocks, and what is kept once they are sent and once they are answered. Contracts inside the crate cite it.
+-- The owed blocks that a frame carries, and the knowledge of registers after the frame is sent and after it is answered.
+-- Contracts inside the crate cite it.
 use Rattle.std.specs.Prelude.{◌≡◌, ℕ, ◌+◌, ◌≤◌, not, filter, Bool, true, false, if◌then◌else◌, All, List, [], ◌∷◌, ◌++◌, map, option_map, slice_get, take, MatchOption, Option, None, Some}
 use Rattle.std.specs.List.{list_any}
 use Rattle.hc_records.specs.Line.{State, groups_of, line}
@@ -21,7 +22,7 @@ use Rattle.hc_sendings.specs.Judging.{written_head}
 use Rattle.hc_sendings.specs.Waiting.{Waiting, is_newest_awaited}
 use Rattle.hc_sendings.specs.WriteFrames.{WriteFrame, block_of}
 
--- what is kept of the blocks is right for a project's state, which a plan has
+-- a register state is right for a project's state, which a plan has
 pub record KeepsBlocks (register_state : RegisterState) (plan : State) : Type 0 where
   pub known : Knowledge
   pub state : State
@@ -33,7 +34,7 @@ pub record KeepsBlocks (register_state : RegisterState) (plan : State) : Type 0 
 abbrev pub IsLineBlock : State → PlacedBlock → Type 0
 IsLineBlock state placed = slice_get (places state) placed.place ≡ Some (Some placed.block)
 
--- those of the lacking blocks from a place on whose newest write isn't awaited
+-- the lacking blocks from a place on whose newest write is not awaited
 abbrev pub further_from : Knowledge → State → Waiting → ℕ → List LineBlock
 further_from known state waiting place =
     filter (λ block. not (is_newest_awaited block.station block.number waiting)) (owed_from known state place)
@@ -48,11 +49,11 @@ pub record IsNext (source : Source) (state : State) (place : ℕ) (placed : Plac
   pub at : IsLineBlock state placed
   pub next : source place ≡ placed.block ∷ source (placed.place + 1)
 
--- the next one from a place on, or none where there is none
+-- the next one from a place on, or none if there is none
 abbrev pub GivesNext : Source → State → ℕ → Option PlacedBlock → Type 0
 GivesNext source state place found = MatchOption found (source place ≡ []) (IsNext source state place)
 
--- the blocks of these from a place on joined a frame: as many as it had room for, but so many at most
+-- the blocks of these from a place on joined a frame: as many as it had room for, and at most `most`
 pub record IsChosenFrom (source : Source) (state : State) (place most : ℕ) (old new : WriteFrame) : Type 0 where
   pub blocks : map block_of new.blocks ≡ map block_of old.blocks ++ take most (blocks_beside old.bytes (source place))
   pub bytes : new.bytes ≡ old.bytes + blocks_bytes (take most (blocks_beside old.bytes (source place)))
@@ -67,7 +68,7 @@ pub record CanMark (register_state : RegisterState) (blocks : List PlacedBlock) 
   pub placed : All (IsLineBlock state) blocks
   pub lacking : All (λ placed. lacks known placed.block ≡ true) blocks
 
--- what is known once they are sent: nothing of any of them
+-- the knowledge of registers once these blocks are sent: nothing of any of them
 abbrev pub known_sent : List PlacedBlock → Knowledge → Knowledge
 known_sent [] known = known
 known_sent (placed ∷ blocks) known = known_sent blocks (known_with (found_name placed.block) None known)
@@ -78,7 +79,8 @@ pub record IsAwaitedAt (state : State) (block : AwaitedBlock) : Type 0 where
   pub at : slice_get (places state) block.place ≡ Some (Some found)
   pub head : written_head block ≡ write_head found
 
--- what is kept is right for a project's state, which a plan has, and of whose line these blocks are
+-- blocks can be confirmed: a register state is right for a project's state, which a plan has, and each block is the one of its
+-- line at the block's place
 pub record CanConfirm (register_state : RegisterState) (plan : State) (blocks : List AwaitedBlock) : Type 0 where
   pub known : Knowledge
   pub state : State
@@ -99,17 +101,18 @@ write_is_done Missed = false
 abbrev pub block_bytes_in : State → AwaitedBlock → Option (List ℕ)
 block_bytes_in state block = option_map (λ (found : RegisterBlock). found.bytes) (block_at (line state) block.station block.number)
 
--- what is known of the blocks once they are answered: of each whose write is done the bytes that the line configures
+-- the knowledge of registers once a block is answered: if its write is done, the block's register has the bytes that the line
+-- configures
 abbrev pub known_if : State → AwaitedBlock → Outcome → Knowledge → Knowledge
 known_if state block outcome known = if write_is_done outcome then known_with (block.station, block.number) (block_bytes_in state block) known else known
 
--- block by block, as far as there are outcomes
+-- the knowledge of registers once blocks are answered, block by block, as far as there are outcomes
 abbrev pub known_done : State → List AwaitedBlock → List Outcome → Knowledge → Knowledge
 known_done state [] outcomes known = known
 known_done state (block ∷ blocks) [] known = known
 known_done state (block ∷ blocks) (outcome ∷ outcomes) known = known_done state blocks outcomes (known_if state block outcome known)
 
--- an arrival's datagrams are those of register blocks, one at least isn't stale, and these are their outcomes
+-- an arrival's datagrams are those of register blocks, at least one is not stale, and these are their outcomes
 pub record AreWriteOutcomes (datagrams : List Judged) (outcomes : List Outcome) : Type 0 where
   pub updates : list_any is_current datagrams ≡ true
   pub blocks : list_any (λ datagram. is_block datagram.head.item) datagrams ≡ true

@@ -6,7 +6,8 @@ use Rattle.hc_events.specs.Entries.{History}
 use Rattle.hc_events.specs.Points.{line_of}
 use Rattle.hc_events.specs.Sendings.{Frame, line_data_length}
 
--- its datagrams are of the present line, it has the bytes of their data and 12 more for each of them, and a sending's serial
+-- a frame that can be filled: its datagrams are of the present line, its bytes are those of their data and 12 more for each
+-- datagram, and its serial is one of a sending
 pub record CanBeFilled (history : History) (frame : Frame) : Type 0 where
   pub in_line : All (IsInLine (line_of history)) frame.datagrams
   pub counted : frame.bytes ≡ sum_by (λ named. 12 + line_data_length (line_of history) named) frame.datagrams

@@ -1,4 +1,4 @@
--- The good answers of an arrival, by its outcomes and what came back.
+-- The good answers of an arrival, from its outcomes and its parts.
 use Rattle.std.specs.Prelude.{Bool, true, false, List, [], ◌∷◌, ◌++◌, map}
 use Rattle.hc_frames.specs.Arrived.{ArrivedDatagram}
 use Rattle.hc_events.specs.declared.answer.Outcome.{Outcome}
@@ -8,7 +8,7 @@ use Rattle.hc_events.specs.declared.change.Change.TheVariants as change
 use Rattle.hc_events.specs.Arrivals.{Part}
 use Rattle.hc_events.specs.Images.{NewAnswer}
 
--- the data that came back where an outcome is inputs of a datagram
+-- the good answer of a datagram, with the data that came back; none if the outcome is not inputs
 abbrev pub good_of : Outcome → Part → List NewAnswer
 good_of (Inputs task d) part = record { task = task; datagram = d; bytes = part.bytes } ∷ []
 good_of (WrongCount expected got) part = []
@@ -24,13 +24,13 @@ is_inputs Stale = false
 is_inputs Done = false
 is_inputs Missed = false
 
--- outcome beside part, in order
+-- the good answers of a frame, from its outcomes and parts side by side, in order
 abbrev pub good_answers_in : List Outcome → List Part → List NewAnswer
 good_answers_in [] parts = []
 good_answers_in (outcome ∷ outcomes) [] = []
 good_answers_in (outcome ∷ outcomes) (part ∷ parts) = good_of outcome part ++ good_answers_in outcomes parts
 
--- what a reader of the input images gets for a good answer
+-- the change that a reader of the input images gets for a good answer
 abbrev pub change_of : NewAnswer → Change
 change_of good = change.Good good
 

@@ -22,24 +22,25 @@ use Rattle.hc_core.specs.declared.declaring.SlaveRoom.{SlaveRoom}
 use Rattle.hc_core.specs.declared.prepared.PlannedEdit.{PlannedEdit}
 use Rattle.hc_core.specs.State.{CoreState}
 
--- the core that an edit is prepared for, and what the edit makes of its line
+-- the core that an edit is prepared for, and the edit's effect on its line
 pub record CoreEdit : Type 0 where
   pub core : CoreState
   pub edit : PreparedEdit
 
--- an edit declares a group, and there is memory for its slaves after so many others
+-- an edit declares a group, and there is memory for its slaves after `count` others
 pub record DeclaresWith (count : ℕ) (edit : Edit) (room : SlaveRoom) : Type 0 where
   pub group : Group
   pub named : edit ≡ Declare group
   pub fits : IsOwedRoomFor count group.slaves room.owed
   pub areas : IsReadinessRoomFor (8 * count) (length group.slaves) room.readiness
 
--- memory for the slaves that an edit declares after so many others, and none where it declares none
+-- memory for the slaves that an edit declares after `count` others, and none if it declares none
 abbrev pub HasSlaveRoom : ℕ → Edit → Option SlaveRoom → Type 0
 HasSlaveRoom count edit None = declares edit ≡ false
 HasSlaveRoom count edit (Some room) = DeclaresWith count edit room
 
--- what is kept of the register blocks and of the areas is right for the state before a prepared edit; there is memory for the slaves that it declares, and no register of theirs has contents
+-- an edit can be followed: the state of the register blocks and of the areas is right for the state before the prepared edit,
+-- there is memory for the slaves that it declares, and no register of theirs has contents
 pub record CanFollow (owed : RegisterState) (readiness : List JudgedArea) (edit : PreparedEdit) (memory : Option SlaveRoom) : Type 0 where
   pub known : Knowledge
   pub held : Holdings
@@ -50,15 +51,16 @@ pub record CanFollow (owed : RegisterState) (readiness : List JudgedArea) (edit 
   pub prepared : IsPrepared edit
   pub slaves : HasSlaveRoom (length (stations edit.old)) edit.report.swap.edit memory
 
--- what is kept of the areas after it
+-- the state of the areas after the edit
 abbrev pub areas_followed : {owed : RegisterState} {readiness : List JudgedArea} {edit : PreparedEdit} {memory : Option SlaveRoom} → CanFollow owed readiness edit memory → List JudgedArea
 areas_followed {owed} {readiness} {edit} {memory} can = readiness_of (known_over edit.old can.known) (held_over edit.old edit.new can.held) (unplugged_over edit.new can.unplugged) edit.new
 
--- what will be kept of the areas after it, once each slave that came is cleared
+-- the state of the areas after the edit, once each slave that came is cleared
 abbrev pub areas_foretold : {owed : RegisterState} {readiness : List JudgedArea} {edit : PreparedEdit} {memory : Option SlaveRoom} → CanFollow owed readiness edit memory → List JudgedArea
 areas_foretold {owed} {readiness} {edit} {memory} can = areas_cleared can.known can.held can.unplugged edit.old edit.new
 
--- the edit is one of the core's line, output values are to move as it says, there is memory for the slaves that it declares, and memory without a change in it has room for the changes that nobody took and one more
+-- an edit can be carried out: it is one of the core's line, output values are to move as it says, there is memory for the
+-- slaves that it declares, and an empty list has room for the changes that were not taken and one more
 pub record CanBeCarriedOut (core : CoreState) (planned : PlannedEdit) : Type 0 where
   pub made : planned.edit.old ≡ state_of core.history
   pub prepared : IsPrepared planned.edit

@@ -6,7 +6,8 @@ use Rattle.hc_events.specs.Entries.{History}
 use Rattle.hc_events.specs.Sendings.{Frame}
 use Rattle.hc_events.specs.Steps.{proposal, ready_faults, task_faults}
 
--- these are the frames in which tasks would be sent next, all of them, and nothing refuses the sending, while nothing is owed or each task is ready
+-- frames are a present proposal: all frames in which tasks would be sent next. Nothing refuses the sending, because nothing is
+-- owed or each task is ready
 pub record IsProposal (history : History) (frames : List Frame) : Type 0 where
   pub tasks : List ℕ
   pub together : AreSentTogether tasks

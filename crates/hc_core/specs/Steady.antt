@@ -1,4 +1,4 @@
--- What a task reads and posts over edits that don't change it (this project's profile).
+-- The steady data of a task, and the answer to a steady read (this project's profile).
 use Rattle.std.specs.Prelude.{ℕ, List, map, Option}
 use Rattle.std.specs.List.{range_with_len}
 use Rattle.hc_records.specs.Image.{datagram_count, task_places}
@@ -14,6 +14,6 @@ use Rattle.hc_events.specs.Steps.{read_faults, unless}
 abbrev pub steady_slots : History → ℕ → List (Option (List ℕ))
 steady_slots history task = map (steady_slot history task) (range_with_len 0 (datagram_count (task_places task (line_of history))))
 
--- what a steady read of a task is answered: the refusal of a read, else the present epoch and these data
+-- the answer to a steady read of a task: the refusal of a read, otherwise the present epoch and these data
 abbrev pub steady_answer : History → ℕ → Answer
 steady_answer history task = unless (lowest (read_faults task)) (answer.Image (epoch_of history) (steady_slots history task))

@@ -1,4 +1,4 @@
--- The bytes that are kept of outputs, by the record.
+-- The stored bytes of the outputs, by the record.
 use Rattle.hc_places.specs.Table.{table_of}
 use Rattle.hc_images.specs.Packed.{HoldsOutputValues, Packed}
 use Rattle.hc_events.specs.Entries.{History}

@@ -1,4 +1,4 @@
--- What is kept as awaited is what the record awaits.
+-- The awaited frames and writes of a core, which are those that the record awaits.
 use Rattle.std.specs.Prelude.{All}
 use Rattle.hc_events.specs.Entries.{History}
 use Rattle.hc_events.specs.Points.{state_of}

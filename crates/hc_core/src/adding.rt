@@ -1,4 +1,4 @@
-//! How many changes an arrival would add.
+//! `Core::changes_by`: the number of changes that an arrival would add.
 ghost use Rattle.std.specs.Prelude.{◌≡◌, ◌+◌, ◌≤◌, ◌∷◌, count_by, length};
 ghost use Rattle.hc_events.specs.Answering.{judged_by};
 ghost use Rattle.hc_events.specs.Changes.{updates_of};
@@ -11,7 +11,7 @@ use crate::keeping::Core;
 use hc_events::answer::{Arrived, Outcome};
 use hc_frames::reading::Returned;
 
-/// Whether an outcome is a good answer.
+/// True if an outcome is a good answer.
 fn is_inputs(outcome: &Outcome) -> bool
     ensures { result ≡ is_inputs outcome.now }
 {
@@ -30,7 +30,7 @@ fn is_inputs(outcome: &Outcome) -> bool
     }
 }
 
-/// How many outcomes are good answers. A frame has 115 at most, so deep is this recursion.
+/// Counts the good answers among outcomes. The recursion is as deep as the list: a frame has at most 115 datagrams.
 fn count_inputs(outcomes: &[Outcome]) -> usize
     ensures count { result ≡ count_by is_inputs outcomes.now }
     ensures few { result ≤ length outcomes.now }
@@ -42,8 +42,8 @@ fn count_inputs(outcomes: &[Outcome]) -> usize
 }
 
 impl Core {
-    /// How many changes an arrival that was read as a frame would add, by what it is: `judge` gives that, and the list of what
-    /// it is for each datagram. Each good answer is a change, so they are 115 at most. It takes no memory.
+    /// Returns the number of changes that an arrival read as a frame would add, 0 to 115: one for each good answer. `arrived`
+    /// and `outcomes` are the results of `judge` for this arrival. It allocates nothing.
     pub fn changes_by(
         &self,
         arrival: &Returned<'_>,

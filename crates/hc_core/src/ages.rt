@@ -1,5 +1,5 @@
-//! `Ages`: how old the data are that tasks read. An arrival's good answers put them, and an edit clears those of the tasks that it
-//! changes.
+//! `Ages`: the ages of the data that tasks read. An arrival's good answers set them, and an edit clears those of the tasks that
+//! it changes.
 ghost use Rattle.std.specs.Prelude.{◌≡◌, ◌+◌, ◌<◌, ◌≤◌, ℕ, None, length, slice_index_or};
 
 use hc_records::limits::MOST_DATAGRAMS;
@@ -8,16 +8,16 @@ use hc_records::task::Task;
 use std::alloc::{AllocError, Global};
 use std::marker::Model;
 
-/// How old the data of a datagram are.
+/// The age of a datagram's data.
 #[derive(Clone, Copy, Debug)]
 pub(crate) struct DataAge {
-    /// The serial of the sending that their answer answered.
+    /// The serial of the sending that the data answer.
     pub(crate) serial: u64,
-    /// The epoch of that answer.
+    /// The epoch in which the answer came.
     pub(crate) epoch: u32,
 }
 
-/// Takes the age from `count` datagrams in a row.
+/// Clears the ages of `count` datagrams in a row, from index `from` on.
 fn clear_ages(ages: &mut [Option<DataAge>], from: usize, count: usize)
     requires { from + count ≤ length ages.old }
     ensures size { length ages.new ≡ length ages.old }
@@ -30,7 +30,8 @@ fn clear_ages(ages: &mut [Option<DataAge>], from: usize, count: usize)
     }
 }
 
-/// For each datagram that a line can have the age of its steady data, or none. It has room for all of them from the start.
+/// The age of each datagram's steady data, or none, for all datagrams that a line can have. All of them are allocated from the
+/// start.
 #[derive(Debug)]
 pub(crate) struct Ages {
     ages: Vec<Option<DataAge>>,
@@ -57,7 +58,7 @@ impl Ages {
     ghost use Rattle.hc_records.specs.declared.limits.TheConstants.{MOST_DATAGRAMS};
     ghost use Rattle.hc_core.specs.Ages.{Dates, HaveNone, Undates, age_of};
 
-    /// No datagram has an age. Fails with `AllocError` if the allocation fails; no other call allocates.
+    /// Returns ages of which each is none. Fails with `AllocError` if the allocation fails; no other call allocates.
     pub(crate) fn new(alloc: Global) -> Result<Ages, AllocError>
         ensures { IfOk result (λ ages. HaveNone ages) }
     {
@@ -68,7 +69,7 @@ impl Ages {
         Ok(Ages { ages })
     }
 
-    /// The datagrams of a task have no age from now on, and those of every other task keep theirs.
+    /// Clears the ages of a task's datagrams. Those of every other task stay.
     pub(crate) fn clear_task(&mut self, task: Task)
         ensures { Undates self.old self.new task }
     {
@@ -80,7 +81,7 @@ impl Ages {
         );
     }
 
-    /// A datagram has this age from now on. Its number in the task is 0 to 15.
+    /// Sets the age of a datagram. Its number in the task is 0 to 15.
     pub(crate) fn put(&mut self, task: Task, number: u8, age: DataAge)
         requires { number < MOST_DATAGRAMS }
         ensures { Dates self.old self.new task number age }
@@ -88,7 +89,7 @@ impl Ages {
         self.ages[slot_number(task.number(), number)] = Some(age);
     }
 
-    /// The age of a datagram's data, or none. Its number in the task is 0 to 15.
+    /// Returns the age of a datagram's data, or none. Its number in the task is 0 to 15.
     pub(crate) fn get(&self, task: Task, number: u8) -> Option<DataAge>
         requires { number < MOST_DATAGRAMS }
         ensures { result ≡ age_of self.now task number }

@@ -1,4 +1,4 @@
-//! What is kept of the areas once register blocks are sent and once they are answered. `writing` and `arriving` call it.
+//! Updates of the areas' state when register blocks are sent and when they are answered. `writing` and `arriving` call them.
 ghost use Rattle.std.specs.Prelude.{◌≡◌, [], ◌∷◌};
 ghost use Rattle.hc_core.specs.Held.{CanConfirmAreas, CanMarkAreas, areas_done, areas_if, areas_sent};
 
@@ -7,8 +7,8 @@ use hc_owed::readiness::Readiness;
 use hc_sendings::write_frames::PlacedBlock;
 use hc_sendings::writes::AwaitedBlock;
 
-/// Blocks are sent: from now on their registers may hold their bytes too. The recursion is as deep as there are blocks: 74 at
-/// most.
+/// Marks blocks as sent: from then on their registers may hold their bytes too. There are at most 74 blocks, which bounds the
+/// recursion.
 pub(crate) fn mark_areas(readiness: &mut Readiness, blocks: &[PlacedBlock])
     requires { CanMarkAreas readiness.old blocks.now }
     ensures { (can : CanMarkAreas readiness.old blocks.now) → readiness.new ≡ areas_sent can }
@@ -39,7 +39,7 @@ fn confirm_area_if(readiness: &mut Readiness, block: &AwaitedBlock, outcome: Out
     }
 }
 
-/// The blocks of a frame are answered, each by its own outcome. The recursion is as deep as there are blocks: 74 at most.
+/// Confirms the areas of a frame's blocks, each by its own outcome. There are at most 74 blocks, which bounds the recursion.
 pub(crate) fn confirm_areas(
     readiness: &mut Readiness,
     blocks: &[AwaitedBlock],

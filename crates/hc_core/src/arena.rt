@@ -1,4 +1,5 @@
-//! Tasks are sent into one slice of the caller's, an arena: their frames are in it one after another.
+//! `propose_within` and `send_into`: the sending of tasks into an arena, one slice of the caller's that holds their frames one
+//! after another.
 ghost use Rattle.std.specs.Prelude.{◌≡◌, ◌≢◌, ◌+◌, ◌<◌, ◌≤◌, ◌*◌, [], All, ◌++◌, Err, IfErr, IfOk, IfSome, None, OnErr, OnOk, Some, drop, length, sum_by, vec_capacity};
 ghost use Rattle.std.specs.List.{flat_map};
 ghost use Rattle.hc_records.specs.declared.limits.TheConstants.{MOST_DATAGRAMS, TASKS};
@@ -29,7 +30,7 @@ fn size_of(frame: &Sending) -> usize
     frame.size()
 }
 
-/// The bytes of frames. A proposal has 128 frames at most, so deep is this recursion.
+/// Returns the bytes of all frames together. The recursion is as deep as the list: a proposal has at most 128 frames.
 pub(crate) fn size_of_all(frames: &[Sending]) -> usize
     requires { length frames.now ≤ SETUP_SERIAL }
     ensures bytes { result ≡ sum_by sent_frame_size frames.now }
@@ -41,7 +42,8 @@ pub(crate) fn size_of_all(frames: &[Sending]) -> usize
     }
 }
 
-/// Fills frames one after another into a slice of their exact size. So deep is this recursion too.
+/// Fills frames one after another into a slice of their exact size. The recursion is as deep as the list: a proposal has at
+/// most 128 frames.
 fn fill_all(core: &Core, frames: &[Sending], out: &mut [u8])
     requires can { All (CanBeFilled core.now.history) frames.now }
     requires exact { length out.old ≡ sum_by sent_frame_size frames.now }
@@ -55,7 +57,8 @@ fn fill_all(core: &Core, frames: &[Sending], out: &mut [u8])
     fill_all(core, rest, others);
 }
 
-/// Fills frames at the front of an arena, where they have so many bytes.
+/// Fills frames one after another at the start of an arena. `size` is the bytes of all of them, and the arena has at least as
+/// many.
 pub(crate) fn fill_front(core: &Core, frames: &[Sending], size: usize, arena: &mut [u8])
     requires can { All (CanBeFilled core.now.history) frames.now }
     requires size { size ≡ sum_by sent_frame_size frames.now }
@@ -67,10 +70,16 @@ pub(crate) fn fill_front(core: &Core, frames: &[Sending], size: usize, arena: &m
 }
 
 impl Core {
-    /// The frames that `propose_into` proposes, where an arena of so many bytes has room for all of them, and the bytes that
-    /// they have. `NoSuchTask`, `Unprogrammed` and `SerialsSpent` as there; `Room` with the size needed where the arena is
-    /// shorter; and of several the first of these. `Memory` where a growth was refused, and only after the first two. The
-    /// list is empty where the frames are refused, and its room never falls. Nothing is sent by it.
+    /// Proposes frames as `propose_into` does, if an arena of `room` bytes holds all of them, and returns their bytes. It sends
+    /// nothing. The list is emptied first and stays empty after a failure; its capacity never falls. It fails with the first of
+    /// these that holds:
+    ///
+    /// - `NoSuchTask`: a number is over 7.
+    /// - `Unprogrammed`: register blocks are owed; the fault has their number.
+    /// - `SerialsSpent`: too few serials are left.
+    /// - `Room`: the arena is too short; the fault has the bytes needed.
+    ///
+    /// `Memory` (an allocation failed) can come in place of the last two.
     pub fn propose_within(
         &self,
         tasks: &[u8],
@@ -101,14 +110,18 @@ impl Core {
         Ok(needed)
     }
 
-    /// Tasks are sent, 1 to 8 distinct ones: their frames are at the front of the arena one after another, each of its own
-    /// size, and in the list in that order. The bytes of all frames are answered, and after them the arena is as it was. What
-    /// the list held is dropped. `NoSuchTask` where a number is over 7; `Unprogrammed` where register blocks are owed, with
-    /// their number; `SerialsSpent` where too few serials are left; `Room` with the size needed where the arena is shorter;
-    /// and of several the first of these. `Memory` where a growth was refused, and only after the first two. Then nothing is
-    /// sent, nothing changed, the arena is as it was, and the list is empty. A list with room for 128 frames, 16 of each of
-    /// the eight tasks, takes no memory, and is never refused for `Memory` (this project's profile). The list's room never
-    /// falls.
+    /// Sends 1 to 8 distinct tasks. Their frames are at the start of the arena one after another, each of its own size, and in
+    /// the list in that order. Returns the bytes of all frames; after them the arena is as it was. The earlier content of the
+    /// list is dropped. It fails with the first of these that holds:
+    ///
+    /// - `NoSuchTask`: a number is over 7.
+    /// - `Unprogrammed`: register blocks are owed; the fault has their number.
+    /// - `SerialsSpent`: too few serials are left.
+    /// - `Room`: the arena is too short; the fault has the bytes needed.
+    ///
+    /// `Memory` (an allocation failed) can come in place of the last two. After a failure nothing is sent, nothing has changed,
+    /// the arena is as it was, and the list is empty. A list with a capacity of 128 frames, 16 for each of the eight tasks,
+    /// needs no allocation; its capacity never falls (this project's profile).
     pub fn send_into(
         &mut self,
         tasks: &[u8],

@@ -1,4 +1,4 @@
-//! What an arrival is, and what it changes.
+//! Arrivals: the judgement of an arrival, and the changes that it makes to the core.
 ghost use Rattle.std.specs.Prelude.{◌≡◌, ◌≢◌, ◌<◌, ◌≤◌, [], ◌∷◌, Err, IfErr, IfOk, IfSome, Ok, OnErr, OnOk, Some, option_map, vec_capacity};
 ghost use Rattle.hc_frames.specs.Arrived.{fault_in};
 ghost use Rattle.hc_events.specs.declared.answer.Answer.TheVariants as answer;
@@ -39,7 +39,7 @@ fn empty_unless_answered(arrived: Arrived, outcomes: &mut Vec<Outcome>)
 }
 
 impl Core {
-    /// A stale arrival is recorded, and nothing else changes.
+    /// Records a stale arrival. Nothing else changes.
     pub(crate) fn take_stale(&mut self, bytes: &[u8], arrival: &Returned<'_>)
         requires read { arrival_in bytes.now ≡ Ok arrival.now }
         requires judged { judged_answer (judged_by self.old.history arrival.now) ≡ answer.Stale }
@@ -49,8 +49,8 @@ impl Core {
         self.history = self.history.came(bytes);
     }
 
-    /// The answer to a frame of tasks: the data of its good answers are what the tasks read from now on.
-    /// `AllocError` where a growth was refused, and nothing changed.
+    /// Records the answer to a frame of tasks: from then on the tasks read the data of its good answers. Fails with
+    /// `AllocError` if an allocation fails; nothing has changed then.
     fn take_inputs(
         &mut self,
         alloc: Global,
@@ -81,8 +81,8 @@ impl Core {
         Ok(())
     }
 
-    /// The answer to a frame of register writes: each block whose write is done is known, and the others stay owed. `outcomes`
-    /// has of each block, in the frame's order, what it is.
+    /// Records the answer to a frame of register writes. Each block whose write is done becomes known; the others stay as they
+    /// are. `outcomes` has the outcome of each block, in the frame's order.
     #[inline(always)]
     pub(crate) fn take_writes(&mut self, bytes: &[u8], arrival: &Returned<'_>, outcomes: &[Outcome])
         requires read { arrival_in bytes.now ≡ Ok arrival.now }
@@ -96,10 +96,10 @@ impl Core {
         self.history = self.history.came(bytes);
     }
 
-    /// What an arrival that was read as a frame changes, by what it is: `judge` gives that, and the list of what it is for each
-    /// datagram. It is recorded. It takes memory where the list of the changes grows, and for the data of good answers, which go
-    /// into buffers that came back (`give_back`) as long as there are some. `AllocError` where a growth was refused, and nothing
-    /// changed.
+    /// Records an arrival that was read as a frame, and applies its good answers or its register writes. `arrived` and
+    /// `outcomes` are the results of `judge` for this arrival. It allocates if the list of changes grows, and for the data of
+    /// good answers; these go into returned buffers (`give_back`) as long as there are some. Fails with `AllocError` if an
+    /// allocation fails; nothing has changed then.
     #[inline(always)]
     pub fn take_arrival(
         &mut self,
@@ -125,11 +125,10 @@ impl Core {
         Ok(())
     }
 
-    /// What an arrival is that was read as a frame, and nothing changes. The list is used again: what it held is
-    /// dropped, and where the arrival answers frames of tasks, or one of several register writes, the list has of each
-    /// datagram, in the frame's order, what it is; else it is empty. It takes memory where the list has room for fewer
-    /// than the frame's datagrams, 115 at most, alone: `AllocError` where that was refused. The list's room never
-    /// falls.
+    /// Judges an arrival that was read as a frame; the core does not change. If the arrival answers a frame of tasks or one of
+    /// several register writes, `outcomes` has the outcome of each datagram, in the frame's order; otherwise it is empty. Its
+    /// earlier content is dropped, and its capacity never falls. It allocates only if that capacity is less than the frame's
+    /// datagrams, at most 115. Fails with `AllocError` if the allocation fails.
     #[inline(always)]
     pub fn judge(
         &self,
@@ -147,9 +146,9 @@ impl Core {
         Ok(arrived)
     }
 
-    /// An arrival, any bytes. One that can't be read as a frame is refused, whatever memory does, and nothing
-    /// changes. Else it is recorded, and its answer gives datagram by datagram what it is. `AllocError` where a
-    /// growth was refused, and nothing changed.
+    /// Serves an arrival of any bytes. Bytes that cannot be read as a frame are refused, even if memory is short, and nothing
+    /// changes. Otherwise the arrival is recorded; the answer to a frame of tasks has the outcome of each datagram. Fails with
+    /// `AllocError` if an allocation fails; nothing has changed then.
     pub(crate) fn arrive(&mut self, alloc: Global, bytes: &[u8]) -> Result<Answer, AllocError>
         ensures answer { IfOk result (λ returned. returned ≡ answer_to self.old.history (Arrives bytes.now)) }
         ensures early { IfSome (fault_in bytes.now) (λ fault. result ≡ Ok (answer.Refused (frame_refusal fault))) }
@@ -166,12 +165,14 @@ impl Core {
         Ok(arrived.answer(outcomes))
     }
 
-    /// An arrival, any bytes, as `step` serves it, for a list that is used again: where it answers frames of tasks, or
-    /// one of several register writes, the list has of each datagram, in the frame's order, what it is; else it is
-    /// empty. It takes memory where the list has no room for these outcomes, 115 at most; where the list of the changes
-    /// grows; and for the data of good answers, which go into buffers that came back (`give_back`) as long as there are
-    /// some. A fault of the frame, 20 to 27, is reported whatever memory does, and `Memory` where a growth was refused;
-    /// then nothing changed, and the list is empty. The list's room never falls.
+    /// Serves an arrival of any bytes as `step` does, with a list of outcomes that is used again. If the arrival answers a
+    /// frame of tasks or one of several register writes, the list has the outcome of each datagram, in the frame's order;
+    /// otherwise it is empty. Its capacity never falls.
+    ///
+    /// It allocates if the list is too short for these outcomes, at most 115, and if the list of changes grows. It allocates
+    /// for the data of good answers, which go into returned buffers (`give_back`) as long as there are some. A fault of the
+    /// frame, 20 to 27, is reported even if memory is short; otherwise `Memory` if an allocation fails. After a failure nothing
+    /// has changed, and the list is empty.
     pub fn arrive_into(
         &mut self,
         alloc: Global,
@@ -198,9 +199,9 @@ impl Core {
         }
     }
 
-    /// The memory of a good answer that nobody reads any more comes back, for the data of good answers to come: up to
-    /// 128 buffers are kept, and others dropped. It changes nothing that contracts see. It takes memory for the list of
-    /// the buffers while that grows; where it is refused, the buffer is dropped.
+    /// Takes back the memory of a good answer that nobody reads any more, for the data of later good answers. At most 128
+    /// buffers are stored; others are dropped. Contracts see no change. It allocates if the list of buffers grows; if that
+    /// fails, the buffer is dropped.
     pub fn give_back(&mut self, bytes: Items<u8>)
         ensures { self.new ≡ self.old }
     {

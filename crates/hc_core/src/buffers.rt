@@ -1,10 +1,10 @@
-//! Memory of good answers that came back, for the data of later ones.
+//! `Buffers`: memory of good answers that was given back, for the data of later ones.
 ghost use Rattle.std.specs.Prelude.{◌≡◌, IfOk};
 
 use hc_records::items::Items;
 use std::alloc::{AllocError, Global};
 
-/// As many as a line has datagrams: 16 in each of the eight tasks (this project's profile).
+/// The most buffers that are stored: one for each datagram of a line, 16 in each of the eight tasks (this project's profile).
 const MOST_BUFFERS: usize = 128;
 
 /// Buffers whose bytes nobody reads any more. Contracts see nothing of them.
@@ -14,21 +14,22 @@ pub(crate) struct Buffers {
 }
 
 impl Buffers {
-    /// None yet. It takes no memory.
+    /// Returns an empty store. It allocates nothing.
     pub(crate) fn new(alloc: Global) -> Buffers {
         Buffers {
             free: Vec::new(alloc),
         }
     }
 
-    /// One came back: it is kept, or dropped where 128 are, or where the list of them has no room and is refused a growth.
+    /// Stores a buffer. Exception: it is dropped if 128 are stored already, or if the list of buffers cannot grow.
     pub(crate) fn put(&mut self, buffer: Vec<u8>) {
         if self.free.len() < MOST_BUFFERS {
             drop(self.free.push(buffer));
         }
     }
 
-    /// These bytes, in a buffer that came back, else in memory of their own. `AllocError` where a growth was refused.
+    /// Returns these bytes in a stored buffer, or in a new one if none is stored. Fails with `AllocError` if an allocation
+    /// fails.
     pub(crate) fn filled(&mut self, alloc: Global, bytes: &[u8]) -> Result<Items<u8>, AllocError>
         ensures { IfOk result (λ copy. copy ≡ bytes.now) }
     {

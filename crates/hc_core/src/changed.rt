@@ -1,4 +1,4 @@
-//! The tasks that an edit changes: which they are, and what an edit makes of their data and of their epochs.
+//! The tasks that an edit changes, and the edit's effect on their data and their epochs.
 ghost use Rattle.std.specs.Prelude.{◌≡◌, ◌<◌, ℕ, if◌then◌else◌};
 ghost use Rattle.hc_records.specs.declared.limits.TheConstants.{TASKS};
 ghost use Rattle.hc_records.specs.Line.{line};
@@ -55,7 +55,7 @@ fn places_changed(places: &Places, swap: &Swap) -> TaskSet
     set
 }
 
-/// Whether an edit gives an area other PDOs.
+/// True if an edit is a remap, which gives an area other PDOs.
 fn remaps(edit: &Edit) -> bool
     ensures { result ≡ remaps edit.now }
 {
@@ -85,7 +85,7 @@ pub(crate) fn changed_tasks(places: &Places, edit: &PreparedEdit, blocks: TaskSe
         .with(blocks)
 }
 
-/// A task's datagrams have no data and no age from now on, if the task is changed.
+/// Clears the data and the ages of a task's datagrams, if the task is changed.
 fn empty_task(inputs: &mut Inputs, ages: &mut Ages, task: u8, changed: TaskSet)
     requires { task < TASKS }
     ensures slots { EmptiesIf (has_task task changed) task inputs.old inputs.new }
@@ -97,7 +97,7 @@ fn empty_task(inputs: &mut Inputs, ages: &mut Ages, task: u8, changed: TaskSet)
     }
 }
 
-/// The datagrams of changed tasks have no data and no age from now on.
+/// Clears the data and the ages of the datagrams of changed tasks.
 pub(crate) fn empty_tasks(inputs: &mut Inputs, ages: &mut Ages, changed: TaskSet)
     ensures slots { EmptiesTasks changed inputs.old inputs.new }
     ensures ages { UndatesTasks changed ages.old ages.new }
@@ -107,14 +107,14 @@ pub(crate) fn empty_tasks(inputs: &mut Inputs, ages: &mut Ages, changed: TaskSet
     }
 }
 
-/// The epoch of a task once an edit with this epoch was accepted: that one if the task is changed, else its own.
+/// Returns the epoch of a task once an edit with this epoch was accepted: that one if the task is changed, otherwise its own.
 fn epoch_after(own: u32, epoch: u32, changed: bool) -> u32
     ensures { result ≡ (if changed then epoch else own) }
 {
     if changed { epoch } else { own }
 }
 
-/// The epochs of the tasks once an edit with this epoch was accepted.
+/// Sets the epochs of the changed tasks to that of an accepted edit.
 pub(crate) fn raise_epochs(epochs: &mut [u32; 8], epoch: u32, changed: TaskSet)
     ensures { RaisesTasks changed epoch epochs.old epochs.new }
 {

@@ -1,5 +1,5 @@
-//! Which owed register blocks a frame carries, and what becomes of them when it is sent and when it is answered. `writing` and
-//! `arriving` call it.
+//! The choice of the owed register blocks that a frame carries, and their state when the frame is sent and when it is answered.
+//! `writing` and `arriving` call it.
 ghost use Rattle.std.specs.Prelude.{◌≡◌, [], ◌∷◌};
 ghost use Rattle.hc_owed.specs.RegisterState.{register_state_of};
 ghost use Rattle.hc_owed.specs.Laws.{owed_from};
@@ -12,7 +12,7 @@ use hc_sendings::awaited::Awaited;
 use hc_sendings::write_frames::{PlacedBlock, WriteFrame};
 use hc_sendings::writes::AwaitedBlock;
 
-/// The first owed block at a place or after it, with its place; none where nothing is owed from there on.
+/// Returns the first owed block at a place or after it, with its place. None if nothing is owed from there on.
 fn next_block(owed: &Owed, plan: &Plan, place: u32) -> Option<PlacedBlock>
     ensures { (kept : KeepsBlocks owed.now plan.now) → GivesNext (owed_from kept.known kept.state) kept.state place result }
 {
@@ -23,8 +23,8 @@ fn next_block(owed: &Owed, plan: &Plan, place: u32) -> Option<PlacedBlock>
     })
 }
 
-/// The first owed blocks from a place on join a frame, in their order and each with its place: as many as it has room for,
-/// and `most` at most. A frame has 74 blocks at most, so deep is this recursion.
+/// Adds the first owed blocks from a place on to a frame, in their order and each with its place: as many as fit, and at most
+/// `most`. A frame has at most 74 blocks, which bounds the recursion.
 fn choose(frame: &mut WriteFrame, owed: &Owed, plan: &Plan, place: u32, most: usize)
     requires { KeepsBlocks owed.now plan.now }
     ensures { (kept : KeepsBlocks owed.now plan.now) → IsChosenFrom (owed_from kept.known kept.state) kept.state place most frame.old frame.new }
@@ -43,7 +43,7 @@ fn choose(frame: &mut WriteFrame, owed: &Owed, plan: &Plan, place: u32, most: us
     choose(frame, owed, plan, after, most - 1);
 }
 
-/// The first owed block alone joins a frame, where one is owed and the frame has room for it.
+/// Adds the first owed block alone to a frame, if a block is owed and the frame has room for it.
 #[inline(always)]
 fn choose_one(frame: &mut WriteFrame, owed: &Owed, plan: &Plan)
     requires { KeepsBlocks owed.now plan.now }
@@ -56,7 +56,7 @@ fn choose_one(frame: &mut WriteFrame, owed: &Owed, plan: &Plan)
     }
 }
 
-/// The first owed blocks join a frame: one, or as many as it has room for, and `most` at most.
+/// Adds the first owed blocks to a frame, in their order: as many as fit, and at most `most`.
 #[inline(always)]
 pub(crate) fn choose_first(frame: &mut WriteFrame, owed: &Owed, plan: &Plan, most: usize)
     requires { KeepsBlocks owed.now plan.now }
@@ -69,7 +69,8 @@ pub(crate) fn choose_first(frame: &mut WriteFrame, owed: &Owed, plan: &Plan, mos
     }
 }
 
-/// The first owed block at a place or after it that is not under way, with its place; none if there is none from there on.
+/// Returns the first owed block at a place or after it that is not under way, with its place. None if there is none from there
+/// on.
 pub(crate) fn next_further(
     owed: &Owed,
     plan: &Plan,
@@ -89,8 +90,8 @@ pub(crate) fn next_further(
     None
 }
 
-/// The first owed blocks from a place on that are not under way join a frame, in their order and each with its place: as many
-/// as it has room for, and `most` at most. A frame has 74 blocks at most, so deep is this recursion.
+/// Adds the first owed blocks from a place on that are not under way to a frame, in their order and each with its place: as
+/// many as fit, and at most `most`. A frame has at most 74 blocks, which bounds the recursion.
 pub(crate) fn choose_further(
     frame: &mut WriteFrame,
     owed: &Owed,
@@ -116,8 +117,8 @@ pub(crate) fn choose_further(
     choose_further(frame, owed, plan, awaited, after, most - 1);
 }
 
-/// Blocks are sent: until their answer nothing is known of them, and they are owed as before. They are 74 at most, so deep
-/// is this recursion.
+/// Marks blocks as sent: until their answer nothing is known of their registers, and they stay owed. There are at most 74,
+/// which bounds the recursion.
 fn mark_each(owed: &mut Owed, blocks: &[PlacedBlock])
     requires { CanMark owed.old blocks.now }
     ensures { (can : CanMark owed.old blocks.now) → owed.new ≡ register_state_of (known_sent blocks.now can.known) can.state }
@@ -142,7 +143,7 @@ pub(crate) fn mark_sent(owed: &mut Owed, blocks: &[PlacedBlock])
     }
 }
 
-/// Where a block's write is done, its slave has the block's bytes, and the block isn't owed.
+/// Confirms a block if its write is done: its slave has the block's bytes, and the block is no longer owed.
 fn confirm_if(owed: &mut Owed, plan: &Plan, block: &AwaitedBlock, outcome: Outcome)
     requires { CanConfirm owed.old plan.now (block.now ∷ []) }
     ensures { (can : CanConfirm owed.old plan.now (block.now ∷ [])) → owed.new ≡ register_state_of (known_if can.state block.now outcome can.known) can.state }

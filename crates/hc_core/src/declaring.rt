@@ -1,5 +1,6 @@
-//! What is kept of the register blocks and of the areas after an edit: the slaves that it declares are taken in, in memory that was
-//! taken before, or they lose the slaves that left and compare what moved. Before that: which tasks will wait.
+//! The state of the register blocks and the areas over an edit. The slaves of a declared group are added, in memory that was
+//! allocated before. After any other edit the slaves that left are dropped, and the blocks that moved are compared. `foretell`
+//! returns the tasks that will wait.
 ghost use Rattle.std.specs.Prelude.{◌≡◌, ◌+◌, ◌*◌, ◌<◌, IfOk, length};
 ghost use Rattle.hc_records.specs.declared.edit.Edit.TheVariants.{Declare};
 ghost use Rattle.hc_records.specs.declared.records.Group.{Group};
@@ -25,7 +26,8 @@ pub(crate) struct SlaveRoom {
     pub(crate) readiness: ReadinessRoom,
 }
 
-/// Memory for the slaves that an edit declares, none where it declares none. Fails with `AllocError` if an allocation fails.
+/// Allocates memory for the slaves that an edit declares; none if it declares none. Fails with `AllocError` if an allocation
+/// fails.
 pub(crate) fn slave_room(
     alloc: Global,
     owed: &Owed,
@@ -45,8 +47,8 @@ pub(crate) fn slave_room(
     }
 }
 
-/// Brings what is kept of the blocks and of the areas after a prepared edit, and returns the tasks whose register blocks it changes.
-/// Nothing can be refused.
+/// Updates the state of the register blocks and of the areas after a prepared edit, and returns the tasks whose register blocks
+/// it changes. It cannot fail.
 pub(crate) fn follow(
     owed: &mut Owed,
     readiness: &mut Readiness,

@@ -1,4 +1,4 @@
-//! Arrivals for who asks for no changes: they make none, and those that came before are discarded.
+//! Arrivals with the change log off: nothing is logged, and older entries are dropped.
 ghost use Rattle.std.specs.Prelude.{◌≡◌, ◌≢◌, ◌<◌, ◌≤◌, ◌∷◌, [], IfOk, Ok, OnErr, OnOk, vec_capacity};
 ghost use Rattle.hc_events.specs.declared.answer.Answer.TheVariants as answer;
 ghost use Rattle.hc_events.specs.declared.answer.Arrived.TheVariants.{Answered, Written};
@@ -17,8 +17,8 @@ use std::alloc::AllocError;
 use std::snapshot::Snapshot;
 
 impl Core {
-    /// The answer to a frame of tasks: the data of its good answers are what the tasks read from now on, with their serial,
-    /// and no change is left.
+    /// Records the answer to a frame of tasks: from then on the tasks read the data of its good answers, with their serial. No
+    /// change is left.
     fn discard_inputs(&mut self, bytes: &[u8], arrival: &Returned<'_>, outcomes: &[Outcome])
         requires read { arrival_in bytes.now ≡ Ok arrival.now }
         requires judged { judged_answer (judged_by self.old.history arrival.now) ≡ answer.Answered outcomes.now }
@@ -35,7 +35,7 @@ impl Core {
         self.history = came;
     }
 
-    /// What an arrival changes, by what it is; no change is left.
+    /// Records an arrival and applies it by its kind. No change is left.
     fn take_discarding(
         &mut self,
         bytes: &[u8],
@@ -57,11 +57,11 @@ impl Core {
         self.discard_changes();
     }
 
-    /// An arrival that was read as a frame (`read_frame`), for who asks for no changes. The answer and the list are those of
-    /// `arrive_into`, and so is what tasks read afterwards. Then all changes that nobody took are discarded, those of this
-    /// arrival's good answers among them, which are never made. So it takes memory only where the list has room for fewer than
-    /// the frame's datagrams, 115 at most: `AllocError` where that was refused, and then nothing changed and the list is empty.
-    /// The list's room never falls.
+    /// Serves an arrival that was read as a frame (`read_frame`) for a caller that takes no changes. The result, the outcomes
+    /// and the data that tasks read afterwards are those of `arrive_into`. All changes that were not taken are dropped, and
+    /// none is made for this arrival's good answers. It allocates only if the capacity of `outcomes` is less than the frame's
+    /// datagrams, at most 115. Fails with `AllocError` if the allocation fails; then nothing has changed, and the list is
+    /// empty. Its capacity never falls.
     pub fn arrive_discarding(
         &mut self,
         bytes: &[u8],

@@ -1,4 +1,4 @@
-//! An edit: what it would make of the core, and its carrying out.
+//! Edits: `prepare` works an edit out, and `carry_out` applies it.
 ghost use Rattle.std.specs.Prelude.{◌≡◌, ◌≢◌, ◌∷◌, IfErr, IfOk, IfSome, Err, Ok, OnErr, OnOk};
 ghost use Rattle.hc_records.specs.declared.faults.EditFault.TheVariants.{Memory};
 ghost use Rattle.hc_records.specs.Edits.{edited, state_after};
@@ -22,7 +22,7 @@ use hc_records::faults::EditFault;
 use std::alloc::Global;
 use std::snapshot::Snapshot;
 
-/// What is said of an accepted edit.
+/// Returns the answer to an accepted edit, with the epoch, `recut` and `moved` of its report.
 fn judged_answer(report: &Report) -> Answer
     ensures { result ≡ answer.Edited report.now.epoch report.now.recut report.now.moved }
 {
@@ -34,11 +34,10 @@ fn judged_answer(report: &Report) -> Answer
 }
 
 impl Core {
-    /// Works out what an edit would make of the core; nothing changes. What is answered says what the edit would
-    /// cost and which tasks will wait, and `carry_out` carries it out as long as nothing else was accepted and no change was taken. The
-    /// faults are those of `edit`, the lowest whose condition holds, or `Memory` where a growth was refused: all
-    /// memory of the edit is taken here. A fault that the edit has by itself, of the faults 1 to 11, is reported
-    /// whatever memory does.
+    /// Works an edit out for the core as it is; nothing changes. The result tells the edit's cost and the tasks that will wait.
+    /// `carry_out` applies it, as long as nothing else was accepted and no change was taken. All memory of the edit is
+    /// allocated here. Fails as `edit` does: with the lowest fault whose condition holds, or with `Memory` if an allocation
+    /// fails. A fault that the edit has by itself, one of 1 to 11, is reported even if memory is short.
     pub fn prepare(&mut self, alloc: Global, edit: &Edit) -> Result<CoreEdit, EditFault>
         ensures made { IfOk result (λ core_edit. core_edit.core ≡ self.old) }
         ensures edit { IfOk result (λ core_edit. core_edit.edit.report.swap.edit ≡ edit.now) }
@@ -57,11 +56,11 @@ impl Core {
         })
     }
 
-    /// Carries a prepared edit out: a new epoch begins, where nothing is awaited and no datagram has data of the epoch.
-    /// The tasks that the edit changes have no steady data, and every other task keeps its own. Output variables that
-    /// keep a place keep their values, and the value of any other is 0. The blocks that it moved are owed unless their
-    /// slaves are known to have their bytes, and of a declared group's slaves none is in the line. The edit was prepared
-    /// for the core as it is. Nothing can be refused, and it takes no memory.
+    /// Carries out an edit that was prepared for the core as it is. A new epoch begins: no frame is awaited, and no datagram
+    /// has data of the epoch. The tasks that the edit changes have no steady data; every other task keeps its own. Output
+    /// variables that keep a place keep their values, and every other value is 0. The blocks that it moved are owed unless
+    /// their slaves are known to have their bytes, and no slave of a declared group is in the line. It cannot fail, and it
+    /// allocates nothing.
     pub fn carry_out(&mut self, core_edit: CoreEdit) -> Answer
         requires { core_edit.core ≡ self.old }
         ensures answer { result ≡ edit_answer (state_of self.old.history) (state_after (state_of self.old.history) core_edit.edit.report.swap.edit) }
@@ -75,9 +74,9 @@ impl Core {
         self.carry(planned)
     }
 
-    /// An edit, planned and carried out. Otherwise the lowest fault whose condition holds, or `Memory` where a
-    /// growth was refused, and nothing changed. A fault that the edit has by itself, of the faults 1 to 11, is
-    /// reported whatever memory does. No caller asks which tasks will wait, so that is not worked out.
+    /// Plans an edit and carries it out. Fails with the lowest fault whose condition holds, or with `Memory` if an allocation
+    /// fails; nothing has changed then. A fault that the edit has by itself, one of 1 to 11, is reported even if memory is
+    /// short. The tasks that will wait are not computed, since no caller of it asks for them.
     pub(crate) fn edit(&mut self, alloc: Global, edit: &Edit) -> Result<Answer, EditFault>
         ensures answer { IfOk result (λ returned. returned ≡ edit_answer (state_of self.old.history) (state_after (state_of self.old.history) edit.now)) }
         ensures accepted { OnOk result (edited (state_of self.old.history) edit.now ≡ Ok (state_after (state_of self.old.history) edit.now)) }
@@ -90,9 +89,9 @@ impl Core {
         Ok(self.carry(planned))
     }
 
-    /// Plans an edit of the core as it is, with all memory for carrying it out; nothing changes. Fails with the lowest fault whose
-    /// condition holds, or with `Memory` if an allocation fails. A fault that the edit has by itself, of the faults 1 to 11, is
-    /// reported whatever memory does.
+    /// Plans an edit of the core as it is, with all memory for carrying it out; nothing changes. Fails with the lowest fault
+    /// whose condition holds, or with `Memory` if an allocation fails. A fault that the edit has by itself, one of 1 to 11, is
+    /// reported even if memory is short.
     fn plan_edit(&mut self, alloc: Global, edit: &Edit) -> Result<PlannedEdit, EditFault>
         ensures planned { IfOk result (CanBeCarriedOut self.old) }
         ensures edit { IfOk result (λ planned. planned.edit.report.swap.edit ≡ edit.now) }

@@ -1,4 +1,4 @@
-//! Writes the frames that were proposed.
+//! `Core::fill`: the bytes of proposed frames.
 ghost use Rattle.std.specs.Prelude.{◌≡◌, ◌+◌, ◌^◌, ◌<◌, ◌≤◌, All, IfOk, length, map};
 ghost use Rattle.hc_records.specs.declared.limits.TheConstants.{TASKS};
 ghost use Rattle.hc_frames.specs.Sizes.{frame_bytes};
@@ -55,9 +55,9 @@ fn values_text(alloc: Global, frame: &Sending, outputs: &Outputs) -> Result<Item
 }
 
 impl Core {
-    /// Writes a frame of datagrams of the present line into a slice of its exact size: each datagram carries
-    /// the values of its output variables, and zeros at every other bit. Such are the frames that `propose`
-    /// gives, as long as they are the present proposal, and a present `preview`. It takes no memory.
+    /// Writes a frame of datagrams of the present line into a slice of its exact size. Each datagram carries the values of its
+    /// output variables, and zeros at every other bit. Frames of `propose` can be filled as long as they are the present
+    /// proposal, and so can a present `preview`. It allocates nothing.
     #[inline(always)]
     pub fn fill(&self, frame: &Sending, out: &mut [u8])
         requires frame { CanBeFilled self.now.history frame.now }

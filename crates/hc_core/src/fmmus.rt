@@ -1,4 +1,4 @@
-//! What a master says of the FMMUs of a slave: that they are zero, or off the wire.
+//! Two reports of a master on a slave: its FMMUs are zero (`cleared`), or it is off the wire (`unplugged`).
 ghost use Rattle.std.specs.Prelude.{◌≡◌, ◌∷◌, IfErr, IfOk, None, OnErr, OnOk, Some, false, slice_get, true};
 ghost use Rattle.hc_records.specs.Edits.{is_declared_station};
 ghost use Rattle.hc_records.specs.Lists.{lowest};
@@ -16,7 +16,7 @@ use crate::keeping::Core;
 use hc_events::faults::CoreFault;
 use hc_records::faults::EditFault;
 
-/// Whether this is the fault of a declared slave outside the line.
+/// True if a fault is `Absent`: a declared slave outside the line.
 fn is_absent(fault: &EditFault) -> bool
     ensures { result ≡ is_absent fault.now }
 {
@@ -24,7 +24,8 @@ fn is_absent(fault: &EditFault) -> bool
 }
 
 impl Core {
-    /// Whether the declared slave with this station address is in the line. `UnknownStation` if no declared slave has the address.
+    /// True if the declared slave with this station address is in the line. Fails with `UnknownStation` if no declared slave
+    /// has the address.
     fn is_in_line(&self, station: u16) -> Result<bool, CoreFault>
         ensures declared { OnOk result (is_declared_station (state_of self.now.history) station ≡ true) }
         ensures line { IfOk result (λ inside. inside ≡ is_in_line self.now.history station) }
@@ -48,7 +49,7 @@ impl Core {
         index as u16
     }
 
-    /// Keeps that a slave's FMMUs are zero.
+    /// Records that a slave's FMMUs are zero.
     fn clear(&mut self, station: u16)
         requires { IsClearing self.old.history station }
         ensures { self.new ≡ record self.old { history = Cleared station ∷ self.old.history } }
@@ -58,7 +59,7 @@ impl Core {
         self.history = self.history.cleared(station);
     }
 
-    /// Keeps that a slave outside the line is off the wire.
+    /// Records that a slave outside the line is off the wire.
     fn unplug(&mut self, station: u16)
         requires { IsUnplugging self.old.history station }
         ensures { self.new ≡ record self.old { history = Unplugged station ∷ self.old.history } }
@@ -68,10 +69,10 @@ impl Core {
         self.history = self.history.unplugged(station);
     }
 
-    /// The FMMUs of the declared slave with this station address are zero now, and no write of them that was sent earlier will
-    /// still pass it. The master says so after a frame of zeros to its FMMUs came back with working counter 1
+    /// Records that the FMMUs of the declared slave with this station address are zero, and that no write of them that was sent
+    /// earlier will still pass it. The master calls it after a frame of zeros to its FMMUs came back with working counter 1
     /// (`hc_frames::building::build_fmmu_off`), or after the slave powered up. The slave then holds up no task but those of its
-    /// own areas, while their blocks are owed. A slave of the line is forgotten too, as `forget` says, since zeros are not what
+    /// own areas, while their blocks are owed. A slave of the line is forgotten too, as `forget` does, since zeros are not what
     /// the line configures. Everything else stays. Fails with `UnknownStation` if no declared slave has the address; nothing
     /// has changed then. It needs no allocation (this project's profile).
     pub fn cleared(&mut self, station: u16) -> Result<(), CoreFault>
@@ -87,10 +88,10 @@ impl Core {
         Ok(())
     }
 
-    /// The declared slave with this station address, which is outside the line, is off the wire: its registers count for
-    /// nothing until its group is connected again. Everything else stays. Fails with `UnknownStation` if no declared slave has
-    /// the address; else with `AlreadyPresent` if the slave is in the line. Nothing has changed then. It needs no allocation
-    /// (this project's profile).
+    /// Records that the declared slave with this station address, which is outside the line, is off the wire. Its registers
+    /// count for nothing until its group is connected again. Everything else stays. Fails with `UnknownStation` if no declared
+    /// slave has the address; otherwise with `AlreadyPresent` if the slave is in the line. Nothing has changed then. It needs
+    /// no allocation (this project's profile).
     pub fn unplugged(&mut self, station: u16) -> Result<(), CoreFault>
         ensures accepted { OnOk result (lowest (unplug_faults self.old.history station) ≡ None) }
         ensures entries { OnOk result (self.new ≡ record self.old { history = Unplugged station ∷ self.old.history }) }

@@ -1,4 +1,4 @@
-//! A slave that may have lost its registers.
+//! `Core::forget`: a slave that may have lost its registers.
 ghost use Rattle.std.specs.Prelude.{◌≡◌, ◌∷◌, IfErr, None, OnErr, OnOk, Some, true};
 ghost use Rattle.hc_records.specs.Lists.{lowest};
 ghost use Rattle.hc_events.specs.Entries.{Forgot};
@@ -9,12 +9,11 @@ use crate::keeping::Core;
 use hc_events::faults::CoreFault;
 
 impl Core {
-    /// The slave with this station address may have lost its registers, as one that was switched off and on: none
-    /// of its register blocks is known any more, so all of them are owed. A write to it that was sent before
-    /// confirms nothing. Everything else stays: the epoch, the input images, the output values, the changes, what is
-    /// known of other slaves, and what is awaited of them and of the tasks. `UnknownStation` where no declared
-    /// slave has the address; `Absent` where that slave isn't in the line. Then nothing changed. It takes no memory
-    /// (this project's profile).
+    /// Forgets the registers of the slave with this station address, which may have lost them, for example by a power cycle.
+    /// All its register blocks become owed, and a write to it that was sent before confirms nothing. Everything else stays: the
+    /// epoch, the input images, the output values, the changes, the known blocks of other slaves, and the awaited answers of
+    /// other slaves and of the tasks. Fails with `UnknownStation` if no declared slave has the address, or with `Absent` if
+    /// that slave is not in the line; nothing has changed then. It allocates nothing (this project's profile).
     pub fn forget(&mut self, station: u16) -> Result<(), CoreFault>
         ensures accepted { OnOk result (lowest (forget_faults self.old.history station) ≡ None) }
         ensures entries { OnOk result (self.new ≡ record self.old { history = Forgot station ∷ self.old.history }) }

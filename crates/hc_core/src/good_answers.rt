@@ -1,4 +1,5 @@
-//! What an arrival's good answers change: the input image with the ages of its data, and the changes that its readers get.
+//! The effects of an arrival's good answers: on the input image with the ages of its data, and on the changes that its readers
+//! get.
 ghost use Rattle.std.specs.Prelude.{◌≡◌, [], All, IfOk, OnOk, map, option_to_list};
 ghost use Rattle.hc_events.specs.Images.{FitsImage};
 ghost use Rattle.hc_core.specs.GoodAnswers.{change_of, good_of, good_answers_in};
@@ -13,7 +14,8 @@ use hc_images::inputs::Inputs;
 use hc_records::task::Task;
 use std::alloc::{AllocError, Global};
 
-/// The change that an outcome gives; none where it is no good answer.
+/// Returns the change that an outcome makes, or none if it is not a good answer. Fails with `AllocError` if an allocation
+/// fails.
 fn change_of(
     alloc: Global,
     buffers: &mut Buffers,
@@ -63,8 +65,7 @@ pub(crate) fn put_changes(
     Ok(())
 }
 
-/// An outcome's data are those of its datagram from now on, and this is their serial and their epoch, if the outcome is a good
-/// answer.
+/// Stores the data of an outcome as those of its datagram, with their serial and their epoch, if the outcome is a good answer.
 fn put_good(
     inputs: &mut Inputs,
     ages: &mut Ages,
@@ -93,7 +94,7 @@ fn put_good(
     }
 }
 
-/// The data of an arrival's good answers are those of their datagrams from now on, one after another. They answer the sending with
+/// Stores the data of an arrival's good answers as those of their datagrams, one after another. They answer the sending with
 /// the arrival's serial, and came in this epoch.
 pub(crate) fn put_good_answers(
     inputs: &mut Inputs,

@@ -6,8 +6,8 @@ use hc_records::project::Project;
 use hc_sendings::write_frames::WriteFrame;
 use std::snapshot::Snapshot;
 
-/// The record of a project: its opening, and after it what was accepted, the last entry outermost.
-/// `specs/Records` says which record that is. At run time it is a tag.
+/// The record of a project: its opening, and after it the accepted events, the last entry outermost. `specs/Records` defines
+/// the list of entries that it stands for. At run time it is a tag.
 #[derive(Drop)]
 pub enum HistoryGhost {
     /// The project was opened.

@@ -1,4 +1,4 @@
-//! What a core keeps.
+//! `Core`: the state of one line, from its plan to the changes that were not taken yet.
 use crate::ages::Ages;
 use crate::buffers::Buffers;
 use crate::history::HistoryGhost;
@@ -14,9 +14,9 @@ use hc_sendings::write_frames::WriteFrame;
 use std::marker::Model;
 use std::snapshot::Snapshot;
 
-/// The line, the next serial, what is awaited, the input image and the ages of its data, the epochs of the tasks, the output
-/// values, the known and the owed register blocks, and the changes that nobody took. Contracts see the history of what was accepted, and
-/// that record as it was when the changes were taken last.
+/// The line, the next serial, the awaited frames, the input image and the ages of its data, the epochs of the tasks, the output
+/// values, the known and the owed register blocks, and the changes that were not taken. Contracts see the history of accepted
+/// events, and that record as it was when the changes were last taken.
 pub struct Core {
     pub(crate) plan: Plan,
     pub(crate) serial: u64,
@@ -28,7 +28,7 @@ pub struct Core {
     pub(crate) epochs: [u32; 8],
     pub(crate) outputs: Outputs,
     pub(crate) owed: Owed,
-    // which tasks owed blocks and registers outside the line keep waiting
+    // the tasks that wait for owed blocks and for registers outside the line
     pub(crate) readiness: Readiness,
     pub(crate) changes: Vec<Change>,
     // the changes of one arrival until all of them are there

@@ -1,10 +1,8 @@
-//! What follows from the definitions, so that a reader can trust them: each function here does nothing, and
-//! its contract is a law. Nobody calls it.
+//! Laws that follow from the definitions of specs. Each function here does nothing, and its contract is a law. Nobody calls it.
 ghost use Rattle.hc_core.specs.Laws.{PartsAreTheProposal, PiecesAreTheEvent, ProposalsAreFew};
 
-/// The frames of a present proposal can be filled, and their tasks' parts too. Each with the text that `fill`
-/// writes, they are what the event that sends their tasks answers; and what `commit` leaves of them is what
-/// that event leaves.
+/// The frames of a present proposal can be filled, and so can the parts of their tasks. The frames' texts, as `fill` writes
+/// them, are the answer to the event that sends their tasks. `commit` leaves the same history as this event.
 pub fn pieces_are_the_event()
     ensures { PiecesAreTheEvent }
 {}
@@ -15,8 +13,8 @@ pub fn parts_are_the_proposal()
     ensures { PartsAreTheProposal }
 {}
 
-/// Where no task of the line needs more than 16 datagrams, as of every plan, a present proposal has at most 128
-/// frames.
+/// A present proposal has at most 128 frames, if no task of the line needs more than 16 datagrams. This is true of the line of
+/// every plan.
 pub fn proposals_are_few()
     ensures { ProposalsAreFew }
 {}

@@ -1,5 +1,5 @@
-//! The core: what the master accepts of edits, posts, sendings, register writes and arrivals, and what it
-//! answers to these and to reads. What an event means is this project's profile, over frames of ETG.1000.4.
+//! The core: it answers the master's edits, posts, sendings, register writes, arrivals and reads, and records those that it
+//! accepts. The meaning of an event is this project's profile, over frames of ETG.1000.4.
 #![tactic(auto)]
 
 mod adding;

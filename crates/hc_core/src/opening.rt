@@ -1,4 +1,4 @@
-//! The opening of a project's line.
+//! `Core::new`: the opening of a project's line.
 ghost use Rattle.std.specs.Prelude.{◌≡◌, IfErr, IfOk, None, OnOk};
 ghost use Rattle.hc_records.specs.Edits.{over_limit_task};
 ghost use Rattle.hc_records.specs.Line.{line, opened};
@@ -22,10 +22,10 @@ use std::alloc::Global;
 use std::snapshot::Snapshot;
 
 impl Core {
-    /// The core of a project at its opening: the mandatory group alone is present, the epoch and the next
-    /// serial are 0, nothing is awaited, no datagram has data, every output value is 0, every register block is
-    /// owed, and there is no change. Otherwise `TooManyDatagrams` with the lowest task that needs more than 16,
-    /// or `Memory` where a growth was refused; the project is then dropped.
+    /// Returns the core of a project at its opening. Only the mandatory group is present, the epoch and the next serial are 0,
+    /// no frame is awaited, and no datagram has data. Every output value is 0, every register block is owed, and there is no
+    /// change. Fails with `TooManyDatagrams` and the lowest task that needs more than 16 datagrams, or with `Memory` if an
+    /// allocation fails; the project is then dropped.
     pub fn new(alloc: Global, project: Project) -> Result<Core, EditFault>
         ensures opened { IfOk result (λ core. core ≡ record { history = just_opened project; taken = just_opened project }) }
         ensures accepted { OnOk result (over_limit_task (line (opened project)) ≡ None) }

@@ -1,4 +1,4 @@
-//! Writes the part of one task in a proposal, so that tasks can be written side by side.
+//! `part_size` and `fill_part`: the part of one task in a proposal, so that tasks can be written side by side.
 ghost use Rattle.std.specs.Prelude.{◌≡◌, ◌≤◌, All, length};
 ghost use Rattle.hc_frames.specs.declared.limits.TheConstants.{SETUP_SERIAL};
 ghost use Rattle.hc_events.specs.Outputs.{sent_data};
@@ -26,10 +26,10 @@ fn write_part(out: &mut [u8], frames: &[Sending], task: u8, outputs: &Outputs)
 }
 
 impl Core {
-    /// The bytes of a task's part of frames of the present line, such as a present proposal: its datagrams, the
-    /// 16 bytes before those of a frame whose first one is the task's, and the zeros after those of a frame
-    /// whose last one is; 0 where it has none. So many frames as there are serials have bytes that a `usize`
-    /// counts; a proposal has no more. It takes no memory.
+    /// Returns the bytes of a task's part of frames of the present line, such as a present proposal. The part has the task's
+    /// datagrams, the 16 bytes before those of a frame whose first datagram is the task's, and the zeros after those of a frame
+    /// whose last datagram is. Returns 0 if the task has none. With no more frames than there are serials the sum fits a
+    /// `usize`; a proposal has no more. It allocates nothing.
     pub fn part_size(&self, frames: &[Sending], task: u8) -> usize
         requires frames { All (CanBeFilled self.now.history) frames.now }
         requires few { length frames.now ≤ SETUP_SERIAL }
@@ -38,9 +38,8 @@ impl Core {
         part_size(&self.plan, frames, task)
     }
 
-    /// Writes a task's part of frames of the present line into a slice of its exact size, each datagram as
-    /// `fill` writes it: the parts of a proposal's tasks, joined in their order, are its frames. It takes no
-    /// memory.
+    /// Writes a task's part of frames of the present line into a slice of its exact size, each datagram as `fill` writes it.
+    /// The parts of a proposal's tasks, joined in their order, are its frames. It allocates nothing.
     pub fn fill_part(&self, frames: &[Sending], task: u8, out: &mut [u8])
         requires frames { All (CanBeFilled self.now.history) frames.now }
         requires exact { length out.old ≡ part_size (line_of self.now.history) task frames.now }

@@ -1,4 +1,4 @@
-//! What tasks post.
+//! Posts: the outputs that tasks set.
 ghost use Rattle.std.specs.Prelude.{◌≡◌, ◌∷◌, ◌<◌, ◌==◌, IfErr, None, OnErr, OnOk, Some, length, not};
 ghost use Rattle.hc_records.specs.declared.limits.TheConstants.{TASKS};
 ghost use Rattle.hc_records.specs.Image.{output_length, task_places};
@@ -14,7 +14,7 @@ use hc_records::limits::TASKS;
 use hc_records::task::Task;
 
 impl Core {
-    /// Whether these are as many bytes as a task, 0 to 7, has output bytes in the present epoch.
+    /// True if there are as many bytes as a task, 0 to 7, has output bytes in the present epoch.
     fn fits_outputs(&self, task: u8, bytes: &[u8]) -> bool
         requires { task < TASKS }
         ensures { result ≡ (length bytes.now == output_length (task_places task (line_of self.now.history))) }
@@ -22,14 +22,14 @@ impl Core {
         bytes.len() == usize::from(self.plan.places().part(task).0)
     }
 
-    /// Whether an epoch is another than the present one.
+    /// True if an epoch is not the present one.
     fn is_other_epoch(&self, epoch: u32) -> bool
         ensures { result ≡ not (epoch == epoch_of self.now.history) }
     {
         epoch != self.plan().epoch()
     }
 
-    /// Whether an epoch is below the one of the last edit that changed a task, 0 to 7, or above the present one.
+    /// True if an epoch is below that of the last edit that changed a task, 0 to 7, or above the present one.
     fn is_stale_epoch(&self, task: u8, epoch: u32) -> bool
         requires { task < TASKS }
         ensures { result ≡ is_stale_epoch self.now.history task epoch }
@@ -37,7 +37,7 @@ impl Core {
         epoch < self.task_epoch(task) || epoch > self.plan().epoch()
     }
 
-    /// A post of a task that nothing refuses is recorded, and its values are sent from now on.
+    /// Records a post that has no fault. Its values are sent from then on.
     fn take_post(&mut self, task: u8, bytes: &[u8])
         requires { IsPost (line_of self.old.history) task bytes.now }
         ensures { self.new ≡ record self.old { history = Posted task bytes.now ∷ self.old.history } }

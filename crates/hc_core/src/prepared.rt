@@ -19,21 +19,20 @@ use std::alloc::{AllocError, Global};
 use std::marker::Model;
 use std::snapshot::Snapshot;
 
-/// An edit with all memory for carrying it out in a core: its part of the line, the output values that move, the slaves
-/// that it declares, and the changes that nobody took with one more.
+/// An edit with all memory for carrying it out in a core: its part of the line, the output values that move, and the slaves
+/// that it declares. It also has room for the changes that were not taken and one more.
 #[derive(Drop)]
 pub(crate) struct PlannedEdit {
     pub(crate) edit: PreparedEdit,
     pub(crate) moves: Moves,
     // for the slaves that the edit declares
     pub(crate) slaves: Option<SlaveRoom>,
-    // has room for the changes that nobody took, and for the swap after them
+    // has room for the changes that were not taken, and for the swap after them
     pub(crate) room: Vec<Change>,
 }
 
-/// What an edit makes of a core: of its line, of the values of its output variables, and of its changes. It is
-/// good for the core as it was when the edit was prepared: contracts see that (`core`), and `edit`, from which a
-/// caller says what the edit would cost.
+/// A prepared edit of a core: its effect on the line, on the values of the output variables, and on the changes. It holds for
+/// the core as it was at preparation, which contracts see as `core`. `edit` tells the edit's cost.
 #[derive(Drop)]
 pub struct CoreEdit {
     pub(crate) planned: PlannedEdit,
@@ -59,8 +58,8 @@ impl CoreEdit {
     ghost use Rattle.hc_events.specs.Points.{state_of};
     ghost use Rattle.hc_events.specs.Ready.{waiting_after};
 
-    /// What the edit makes of the line: the report that carrying it out will give, the blocks that would have
-    /// to be written, with their bytes, and the slaves that would leave.
+    /// Returns the edit's effect on the line: the report that carrying it out will return, the blocks that would have to be
+    /// written, with their bytes, and the slaves that would leave.
     pub fn edit(&self) -> &PreparedEdit
         ensures edit { result.now ≡ self.now.edit }
         ensures made { result.now.old ≡ state_of self.now.core.history }
@@ -68,8 +67,9 @@ impl CoreEdit {
         &self.planned.edit
     }
 
-    /// The tasks that will wait once the edit is carried out and each slave that came with it is cleared (`cleared`), as a number:
-    /// bit t is 1 if task t waits, so that `send_ready_into` will refuse it. It takes no time (this project's profile).
+    /// Returns the tasks that will wait once the edit is carried out and each slave that came with it is cleared (`cleared`).
+    /// Bit t of the number is 1 if task t waits, so that `send_ready_into` will refuse it. It takes constant time (this
+    /// project's profile).
     pub fn will_wait(&self) -> u8
         ensures { result ≡ waiting_after self.now.core.history self.now.edit.report.swap.edit }
     {
@@ -77,8 +77,8 @@ impl CoreEdit {
     }
 }
 
-/// The memory that an edit of a line takes beside its plan's: for the output values that move, for the slaves that it
-/// declares, and for changes with one more. Fails with `AllocError` if an allocation fails.
+/// Allocates the memory of an edit beside its plan's: for the output values that move, for the slaves that it declares, and for
+/// the present changes and one more. Fails with `AllocError` if an allocation fails.
 pub(crate) fn edit_memory(
     alloc: Global,
     places: &Places,
@@ -101,7 +101,7 @@ pub(crate) fn edit_memory(
     Ok((moves, slaves, room))
 }
 
-/// Adds a swap after changes, in memory that has room for all of them where their own has none.
+/// Adds a swap after changes. If their list is full, all of them move into `room`, which has enough capacity.
 pub(crate) fn add_swap(changes: &mut Vec<Change>, room: Vec<Change>, swap: Swap)
     requires room { length changes.old.items < vec_capacity room }
     requires empty { room.items ≡ [] }

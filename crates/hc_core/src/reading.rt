@@ -1,4 +1,4 @@
-//! What a core says of itself and to tasks.
+//! Reads of a core: its plan, its next serial, its owed blocks, and the data of its tasks.
 ghost use Rattle.std.specs.Prelude.{◌≡◌, ◌<◌, ◌≤◌, ◌⊎◌, IfOk, IfSome, None, Ok, is_some, length, map};
 ghost use Rattle.std.specs.List.{range_with_len};
 ghost use Rattle.std.specs.Option.{option_copied};
@@ -24,8 +24,8 @@ use hc_records::task::Task;
 use std::alloc::{AllocError, Global};
 
 impl Core {
-    /// The plan of the present line. Its epoch is the number of accepted edits, and the record has what each one
-    /// has that events lead to (`reachable`), for which the laws of such records ask.
+    /// Returns the plan of the present line. Its epoch is the number of accepted edits. The record is one that events lead to
+    /// (`reachable`), as the laws of such records require.
     pub fn plan(&self) -> &Plan
         ensures state { result.now ≡ state_of self.now.history }
         ensures reachable { IsReachable self.now.history }
@@ -41,14 +41,15 @@ impl Core {
         self.serial
     }
 
-    /// How many register blocks of the present line are owed. It takes no memory, and walks over nothing.
+    /// Returns the number of owed register blocks of the present line. The number is stored: the call takes constant time, and
+    /// allocates nothing.
     pub fn owed(&self) -> u32
         ensures { result ≡ length (owed_blocks self.now.history) }
     {
         self.owed.count()
     }
 
-    /// Whether a task, 0 to 7, reads data of one of its datagrams, 0 to 15: the answer that brought its steady data came in the
+    /// True if a task, 0 to 7, reads data of one of its datagrams, 0 to 15: the answer that brought its steady data came in the
     /// present epoch.
     fn is_present(&self, task: u8, number: u8) -> bool
         requires task { task < TASKS }
@@ -63,8 +64,8 @@ impl Core {
         }
     }
 
-    /// What a task reads of one of its datagrams, lent: the data of the last good answer in the present epoch, or none
-    /// where it had none; none too where the task is over 7, or the number over 15. It takes no memory.
+    /// Returns the data that a task reads of one of its datagrams, lent: those of the last good answer in the present epoch.
+    /// None if there was none, if the task is over 7, or if the number is over 15. It allocates nothing.
     pub fn data(&self, task: u8, number: u8) -> Option<&[u8]>
         ensures slot { task < TASKS → number < MOST_DATAGRAMS → option_copied result ≡ slot_of self.now.history task number }
         ensures none { TASKS ≤ task ⊎ MOST_DATAGRAMS ≤ number → option_copied result ≡ None }
@@ -80,8 +81,8 @@ impl Core {
         self.inputs.data(Task(task), number)
     }
 
-    /// The serial of the sending that those data answer, which says how old they are beside `next_serial`; none where
-    /// `data` gives none. It takes no memory.
+    /// Returns the serial of the sending that a datagram's data answer. Beside `next_serial` it tells how old the data are.
+    /// None if `data` returns none. It allocates nothing.
     pub fn data_serial(&self, task: u8, number: u8) -> Option<u64>
         ensures serial { task < TASKS → number < MOST_DATAGRAMS → result ≡ data_serial self.now.history task number }
         ensures none { TASKS ≤ task ⊎ MOST_DATAGRAMS ≤ number → result ≡ None }
@@ -97,8 +98,9 @@ impl Core {
         self.steady_serial(task, number)
     }
 
-    /// The output values of a datagram of the present line, lent, as it is sent now: at the place of each output variable
-    /// the bits of its value, and 0 at every other bit. They are as many bytes as the datagram has. It takes no memory.
+    /// Returns the output values of a datagram of the present line, lent, as they are sent now: the bits of each output
+    /// variable's value at its place, and 0 at every other bit. They are as many bytes as the datagram has. It allocates
+    /// nothing.
     pub fn outputs(&self, task: u8, number: u8) -> &[u8]
         requires { IsInLine (line_of self.now.history) (task, number) }
         ensures { result.now ≡ sent_data self.now.history task number }
@@ -108,7 +110,8 @@ impl Core {
         self.outputs.bytes(task, number)
     }
 
-    /// A copy of what a task, 0 to 7, reads of one of its datagrams, 0 to 15, or none.
+    /// Returns a copy of the data that a task, 0 to 7, reads of one of its datagrams, 0 to 15, or none. Fails with `AllocError`
+    /// if an allocation fails.
     fn slot(&self, alloc: Global, task: u8, number: u8) -> Result<Option<Items<u8>>, AllocError>
         requires task { task < TASKS }
         requires number { number < MOST_DATAGRAMS }
@@ -120,7 +123,8 @@ impl Core {
         Ok(Some(Items::of(Vec::from_slice(alloc, bytes)?)))
     }
 
-    /// What a task, 0 to 7, reads of its first datagrams, at most 16.
+    /// Returns copies of the data that a task, 0 to 7, reads of its first `count` datagrams, at most 16. Fails with
+    /// `AllocError` if an allocation fails.
     fn slots(
         &self,
         alloc: Global,
@@ -138,7 +142,8 @@ impl Core {
         Ok(Items::of(slots))
     }
 
-    /// The image of a task in the present epoch.
+    /// Returns the image of a task in the present epoch, or the refusal `NoSuchTask` for a task over 7. Fails with `AllocError`
+    /// if an allocation fails.
     fn image(&self, alloc: Global, task: u8) -> Result<Answer, AllocError>
         ensures answer { IfOk result (λ returned. returned ≡ answer_to self.now.history (Reads task)) }
         ensures early { IfSome (lowest (read_faults task)) (λ fault. result ≡ Ok (answer.Refused fault)) }
@@ -152,9 +157,9 @@ impl Core {
         Ok(Answer::Image { epoch, slots })
     }
 
-    /// What a task reads: the present epoch, and of each datagram that the task has in the present line the
-    /// data of its last good answer in this epoch, or none where it had none. A task over 7 is refused with
-    /// `NoSuchTask`, whatever memory does. `AllocError` where a growth was refused.
+    /// Returns the image that a task reads: the present epoch, and data or none for each datagram that the task has in the
+    /// present line. The data are those of the datagram's last good answer in this epoch. A task over 7 is refused with
+    /// `NoSuchTask`, even if memory is short. Fails with `AllocError` if an allocation fails.
     pub fn read(&self, alloc: Global, task: u8) -> Result<Answer, AllocError>
         ensures answer { IfOk result (λ returned. returned ≡ answer_to self.now.history (Reads task)) }
         ensures early { IfSome (lowest (read_faults task)) (λ fault. result ≡ Ok (answer.Refused fault)) }

@@ -1,4 +1,4 @@
-//! Ready tasks: which they are, which slaves hold the others up, and their frames.
+//! Ready tasks: the check of each task, and the proposal and the sending of their frames.
 ghost use Rattle.std.specs.Prelude.{◌≡◌, ◌≢◌, ◌+◌, ◌<◌, ◌≤◌, ◌*◌, [], All, ◌++◌, Err, IfErr, IfOk, IfSome, None, OnErr, OnOk, Option, Some, drop, length, sum_by, vec_capacity};
 ghost use Rattle.std.specs.List.{flat_map, list_any};
 ghost use Rattle.hc_records.specs.declared.limits.TheConstants.{MOST_DATAGRAMS, TASKS};
@@ -25,7 +25,7 @@ use hc_sendings::proposing::propose_into;
 use std::alloc::Global;
 use std::mem;
 
-/// Whether one of these numbers is no task's.
+/// True if one of these numbers is over 7, so that no task has it.
 fn names_no_task(tasks: &[u8]) -> bool
     ensures { result ≡ list_any is_no_task tasks.now }
 {
@@ -33,7 +33,8 @@ fn names_no_task(tasks: &[u8]) -> bool
 }
 
 impl Core {
-    /// How many owed register blocks of the line concern a task, 0 to 7, and how many registers of slaves outside the line.
+    /// Returns two numbers for a task, 0 to 7: the owed register blocks of the line that concern it, and the registers of
+    /// slaves outside the line that hold it up.
     fn waiting_for(&self, task: u8) -> (u32, u32)
         requires { task < TASKS }
         ensures blocks { result.0 ≡ length (waited_for self.now.history task) }
@@ -42,7 +43,7 @@ impl Core {
         (self.readiness.waiting(task), self.readiness.outside(task))
     }
 
-    /// Whether a number is no task's, or the task waits.
+    /// True if a number is over 7, or if the task with this number waits.
     fn is_unready(&self, task: u8) -> bool
         ensures { result ≡ is_unready self.now.history task }
     {
@@ -86,12 +87,18 @@ impl Core {
 
     /// Proposes the frames in which 1 to 8 distinct ready tasks would be sent next, in their order, with the next serials, and
     /// puts them into a list that is used again. A task is ready if no owed register block of the line concerns it, and no
-    /// register of a declared slave outside the line may name it (this project's profile). Nothing is sent by it. The frames
-    /// can be filled (`fill`, `fill_part`), and committed as long as they are the present proposal (`commit`). What the list
-    /// held is dropped, it is empty if the tasks are refused, and its capacity never falls. A list with a capacity of 128
-    /// frames, 16 of each of the eight tasks, needs no allocation. Fails with the first of these: `NoSuchTask` if a number is
-    /// over 7; `Waits` with the first task that waits; `SerialsSpent` if too few serials are left. Fails with `Memory` if an
-    /// allocation fails, and only after the first two.
+    /// register of a declared slave outside the line may name it (this project's profile). It sends nothing. The frames can be
+    /// filled (`fill`, `fill_part`), and committed as long as they are the present proposal (`commit`).
+    ///
+    /// The earlier content of the list is dropped, the list is empty after a failure, and its capacity never falls. A list with
+    /// a capacity of 128 frames, 16 for each of the eight tasks, needs no allocation. It fails with the first of these that
+    /// holds:
+    ///
+    /// - `NoSuchTask`: a number is over 7.
+    /// - `Waits`: a task waits; the fault has the first such task.
+    /// - `SerialsSpent`: too few serials are left.
+    ///
+    /// `Memory` (an allocation failed) can come in place of the last one.
     pub fn propose_ready_into(
         &self,
         tasks: &[u8],
@@ -161,14 +168,19 @@ impl Core {
         Ok(needed)
     }
 
-    /// Sends 1 to 8 distinct ready tasks, while register blocks of other tasks may be owed: their frames are at the front of the
-    /// arena one after another, each of its own size, and in the list in that order. Returns the bytes of all frames; after
-    /// them the arena is as it was. Fails with the first of these: `NoSuchTask` if a number is over 7; `Waits` with the first
-    /// task that waits, the owed blocks that concern it and the registers outside the line that may name it; `SerialsSpent`
-    /// if too few serials are left; `Room` with the bytes needed if the arena is shorter. Fails with `Memory` if an
-    /// allocation fails, and only after the first two. After a failure nothing is sent, nothing has changed, the arena is as
-    /// it was, and the list is empty. A list with a capacity of 128 frames, 16 of each of the eight tasks, needs no
-    /// allocation; its capacity never falls (this project's profile).
+    /// Sends 1 to 8 distinct ready tasks, while register blocks of other tasks may be owed. Their frames are at the start of
+    /// the arena one after another, each of its own size, and in the list in that order. Returns the bytes of all frames; after
+    /// them the arena is as it was. It fails with the first of these that holds:
+    ///
+    /// - `NoSuchTask`: a number is over 7.
+    /// - `Waits`: a task waits. The fault has the first such task, the owed blocks that concern it, and the registers outside
+    ///   the line that may name it.
+    /// - `SerialsSpent`: too few serials are left.
+    /// - `Room`: the arena is too short; the fault has the bytes needed.
+    ///
+    /// `Memory` (an allocation failed) can come in place of the last two. After a failure nothing is sent, nothing has changed,
+    /// the arena is as it was, and the list is empty. A list with a capacity of 128 frames, 16 for each of the eight tasks,
+    /// needs no allocation; its capacity never falls (this project's profile).
     pub fn send_ready_into(
         &mut self,
         tasks: &[u8],
@@ -195,7 +207,7 @@ impl Core {
         Ok(size)
     }
 
-    /// Sends ready tasks: the texts of the frames that are proposed into a list, which are then committed.
+    /// Sends ready tasks: proposes their frames into a list, commits them, and returns their texts.
     fn send_ready_by(
         &mut self,
         alloc: Global,

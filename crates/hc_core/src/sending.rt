@@ -1,4 +1,4 @@
-//! Frames of tasks that are sent.
+//! The sending of frames of tasks: `propose`, `preview` and `commit`.
 ghost use Rattle.std.specs.Prelude.{◌≡◌, ◌≢◌, ◌<◌, ◌≤◌, ◌*◌, [], All, Err, IfErr, IfOk, IfSome, None, OnErr, OnOk, Some, length, vec_capacity};
 ghost use Rattle.hc_records.specs.declared.limits.TheConstants.{MOST_DATAGRAMS, TASKS};
 ghost use Rattle.hc_records.specs.Lists.{lowest};
@@ -20,12 +20,15 @@ use std::alloc::Global;
 use std::mem;
 
 impl Core {
-    /// The frames where 1 to 8 distinct tasks would be sent next, in their order, with the next serials; none
-    /// where the tasks have no datagram. Nothing is sent by it. They can be filled (`fill`, `fill_part`), and
-    /// committed as long as they are the present proposal (`commit`). `NoSuchTask` where a number is over 7;
-    /// `Unprogrammed` where register blocks are owed, with their number; `SerialsSpent` where too few serials
-    /// are left; and of several the first of these. `Memory` where a growth was refused, and only after the
-    /// first two.
+    /// Proposes the frames in which 1 to 8 distinct tasks would be sent next, in their order, with the next serials. There are
+    /// none if the tasks have no datagram. It sends nothing. The frames can be filled (`fill`, `fill_part`), and committed as
+    /// long as they are the present proposal (`commit`). It fails with the first of these that holds:
+    ///
+    /// - `NoSuchTask`: a number is over 7.
+    /// - `Unprogrammed`: register blocks are owed; the fault has their number.
+    /// - `SerialsSpent`: too few serials are left.
+    ///
+    /// `Memory` (an allocation failed) can come in place of the last one.
     pub fn propose(&self, alloc: Global, tasks: &[u8]) -> Result<Vec<Sending>, CoreFault>
         requires { AreSentTogether tasks.now }
         ensures frames { IfOk result (λ frames. frames.items ≡ proposal self.now.history tasks.now) }
@@ -61,9 +64,9 @@ impl Core {
         propose_into(&self.plan, self.serial, owed, tasks, frames)
     }
 
-    /// The frame of one datagram of a task alone, as it would be sent next, whether or not blocks are owed; none
-    /// where the task has no such datagram, there is no such task, or no serial is left. It can be filled.
-    /// Nothing is sent by it. It takes no memory.
+    /// Returns the frame of one datagram of a task alone, as it would be sent next, even if blocks are owed. None if the task
+    /// has no such datagram, if there is no such task, or if no serial is left. The frame can be filled. It sends nothing, and
+    /// it allocates nothing.
     pub fn preview(&self, task: u8, number: u8) -> Option<Sending>
         ensures frame { result ≡ preview self.now.history task number }
         ensures filled { IfSome result (CanBeFilled self.now.history) }
@@ -71,8 +74,8 @@ impl Core {
         preview(&self.plan, self.serial, task, number)
     }
 
-    /// All frames of the present proposal are sent, in their order: each is recorded, and is awaited from now on.
-    /// It takes no memory.
+    /// Sends all frames of the present proposal, in their order: each is recorded, and is awaited from then on. It allocates
+    /// nothing.
     #[inline(always)]
     pub fn commit(&mut self, frames: &[Sending])
         requires { IsProposal self.old.history frames.now }
@@ -83,7 +86,7 @@ impl Core {
         self.history.sent_all(frames);
     }
 
-    /// Tasks are sent: the texts of the frames that are proposed into a list, which are then committed.
+    /// Sends tasks: proposes their frames into a list, commits them, and returns their texts.
     fn send_by(
         &mut self,
         alloc: Global,

@@ -1,4 +1,4 @@
-//! Serves events.
+//! `step` and `run`: the serving of events.
 ghost use Rattle.std.specs.Prelude.{◌≡◌, All, IfOk, OnErr, map};
 ghost use Rattle.hc_events.specs.Calls.{AreSentTogether, MayAnswer};
 ghost use Rattle.hc_events.specs.Steps.{Arrives, Clears, Edits, Forgets, Posts, PostsSteady, Reads, SendsFurther, SendsReady, SendsTasks, SendsWrite, SendsWrites, Unplugs, step_of};
@@ -15,7 +15,7 @@ use hc_records::edit::Edit;
 use hc_records::faults::EditFault;
 use std::alloc::{AllocError, Global};
 
-/// The answer, or that the event was refused.
+/// Returns the answer of a call, or a refusal with its fault.
 fn answer_of(returned: Result<Answer, CoreFault>) -> Answer
     ensures { result ≡ answer_of returned }
 {
@@ -45,7 +45,7 @@ fn answer_of_forget(returned: Result<(), CoreFault>) -> Answer
     }
 }
 
-/// The answer to clearing a slave, by what its call gave.
+/// Returns the answer to clearing a slave, from the result of its call.
 fn answer_of_clear(returned: Result<(), CoreFault>) -> Answer
     ensures { result ≡ answer_of_clear returned }
 {
@@ -55,7 +55,7 @@ fn answer_of_clear(returned: Result<(), CoreFault>) -> Answer
     }
 }
 
-/// The answer to unplugging a slave, by what its call gave.
+/// Returns the answer to unplugging a slave, from the result of its call.
 fn answer_of_unplug(returned: Result<(), CoreFault>) -> Answer
     ensures { result ≡ answer_of_unplug returned }
 {
@@ -75,7 +75,7 @@ fn answer_of_edit(returned: Result<Answer, EditFault>) -> Answer
     }
 }
 
-/// The answer, or `Memory`.
+/// Returns the answer of a call, or a refusal with `Memory`.
 fn answer_or_memory(returned: Result<Answer, AllocError>) -> Answer
     ensures { result ≡ answer_or_memory returned }
 {
@@ -205,12 +205,17 @@ impl Core {
         answer_of_unplug(self.unplugged(station))
     }
 
-    /// Serves an event: the answer is the definition's (`answer_to`) for the history of what was accepted, and what it accepts is
-    /// recorded; or `Memory`, where the event takes some, and nothing changed. A fault that is judged before memory is taken is
-    /// reported whatever memory does (`early_fault`): a fault that an edit has by itself, of the faults 1 to 11; of tasks to be sent
-    /// that there is no such task, that blocks are owed, or that one waits; every fault of a write, a read, a post, a slave to be
-    /// forgotten, cleared or unplugged, and a frame that can't be read. Tasks that are sent together are 1 to 8, and none twice. An arrival that is reported to be stale
-    /// leaves nothing: whatever comes after it is answered as if it hadn't come, what tasks read too.
+    /// Serves an event. The answer is that of the definition (`answer_to`) for the history of accepted events, and an accepted
+    /// event is recorded. Exception: an event that allocates may answer `Memory`; nothing has changed then. Tasks that are sent
+    /// together are 1 to 8 and distinct. These faults are judged before memory is allocated, and reported even if it is short
+    /// (`early_fault`):
+    ///
+    /// - of an edit, a fault that it has by itself, one of 1 to 11;
+    /// - of tasks to be sent, that a task does not exist, that blocks are owed, or that one waits;
+    /// - of an arrival, that it cannot be read as a frame;
+    /// - of a write, a read, a post, or a slave to be forgotten, cleared or unplugged, every fault.
+    ///
+    /// An arrival answered `Stale` leaves nothing: every later answer, and all data that tasks read, are as if it had not come.
     pub fn step(&mut self, alloc: Global, event: Event<'_>) -> Answer
         requires { IsAsked (step_of event) }
         ensures answer { MayAnswer self.old.history (step_of event.entry) result self.new.history }
@@ -235,7 +240,7 @@ impl Core {
         }
     }
 
-    /// Serves events one after another. The room for the answers is taken first.
+    /// Serves events one after another. The list of answers is allocated first.
     fn serve_all(&mut self, alloc: Global, events: &[Event<'_>]) -> Result<Vec<Answer>, AllocError>
         requires { All (λ event. IsAsked (step_of event)) events.now }
         ensures answers { IfOk result (λ answers. MayAnswerAll self.old.history (map step_of events.now) answers.items self.new.history) }
@@ -250,16 +255,15 @@ impl Core {
         Ok(answers)
     }
 
-    /// Serves events one after another, each as `step` does. The room for the answers is taken first: after
-    /// `AllocError` no event was served, and nothing changed.
+    /// Serves events one after another, each as `step` does. The list of answers is allocated first: after `AllocError` no
+    /// event was served, and nothing has changed.
     ///
-    /// After the events the line is the one that the edits among them lead to, refused ones changing nothing;
-    /// `plan` gives what configuring that line from nothing makes of it. Whatever a task reads, between the
-    /// events (`shown`) or after them (`reads`), is of each datagram that it has in the present line the data of
-    /// the last good answer in the present epoch, or none where there was none in it; that answer's frame was
-    /// sent in a line with the same places. A stale frame changes nothing: all that comes is answered as if none
-    /// had come, and without the events that were answered `Stale` or refused with `Memory` the others have the
-    /// answers that they have, and lead to a history that says the same (`without`).
+    /// The line after the events is the one that the edits among them lead to; a refused edit changes nothing. `plan` is what
+    /// configuring that line from nothing makes. A task reads, for each datagram that it has in the present line, the data of
+    /// the last good answer in the present epoch, or none if there was none. This holds between the events (`shown`) and after
+    /// them (`reads`). That answer's frame was sent in a line with the same places. A stale frame changes nothing: later
+    /// answers are as if none had come. Without the events answered `Stale` or refused with `Memory` the others have the same
+    /// answers, and lead to a history that says the same (`without`).
     pub fn run(&mut self, alloc: Global, events: &[Event<'_>]) -> Result<Vec<Answer>, AllocError>
         requires { All (λ event. IsAsked (step_of event)) events.now }
         ensures answers { IfOk result (λ answers. MayAnswerAll self.old.history (map step_of events.now) answers.items self.new.history) }

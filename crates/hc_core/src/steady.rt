@@ -1,4 +1,4 @@
-//! What a core says of a task over edits that do not change it.
+//! Reads that outlast edits: the epoch and the steady data of a task, as long as no edit changes the task.
 ghost use Rattle.std.specs.Prelude.{◌≡◌, ◌<◌, ◌≤◌, ◌⊎◌, IfOk, IfSome, None, Ok};
 ghost use Rattle.std.specs.Option.{option_copied};
 ghost use Rattle.hc_records.specs.declared.limits.TheConstants.{MOST_DATAGRAMS, TASKS};
@@ -63,10 +63,10 @@ impl Core {
         }
     }
 
-    /// The steady data of a task: the present epoch, and of each datagram that the task has in the present line the data of the
-    /// last good answer since the last accepted edit that changed the task, or none if there was none since. A task over 7 is
-    /// refused with `NoSuchTask`, even if memory is short. Fails with `AllocError` if an allocation fails (this project's
-    /// profile).
+    /// Returns the steady data of a task: the present epoch, and data or none for each datagram that the task has in the
+    /// present line. The data are those of the datagram's last good answer since the last accepted edit that changed the task.
+    /// A task over 7 is refused with `NoSuchTask`, even if memory is short. Fails with `AllocError` if an allocation fails
+    /// (this project's profile).
     pub fn steady_read(&self, alloc: Global, task: u8) -> Result<Answer, AllocError>
         ensures answer { IfOk result (λ returned. returned ≡ steady_answer self.now.history task) }
         ensures early { IfSome (lowest (read_faults task)) (λ fault. result ≡ Ok (answer.Refused fault)) }

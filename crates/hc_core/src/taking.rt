@@ -1,4 +1,4 @@
-//! Takes the changes, counts or discards them.
+//! The changes that were not taken yet: `take_changes` takes them, `untaken` counts them, `discard_changes` drops them.
 ghost use Rattle.std.specs.Prelude.{◌≡◌};
 ghost use Rattle.hc_events.specs.Changes.{SwapsLeadFrom};
 ghost use Rattle.hc_events.specs.Points.{state_of};
@@ -11,12 +11,10 @@ use std::mem;
 use std::snapshot::Snapshot;
 
 impl Core {
-    /// The changes since they were taken last, or since the opening, in order: what was updates since then,
-    /// legal from the state as it was then, with swaps that lead from its line to the present one. Each swap
-    /// carries only what differs: the tasks whose table differs, and the variables whose place differs, as many
-    /// as
-    /// `Swap::places` answers. They are no longer kept, and the record stays. It takes no memory: `alloc` is for
-    /// the empty list that is kept from now on.
+    /// Takes the changes since they were last taken, or since the opening, in order. They are legal from the state as it was
+    /// then, and their swaps lead from its line to the present one. Each swap carries only differences: the tasks whose table
+    /// differs, and the variables whose place differs, as many as `Swap::places` returns. The core no longer stores the
+    /// changes, and the record stays. It allocates nothing: `alloc` is for the empty list that the core stores from then on.
     pub fn take_changes(&mut self, alloc: Global) -> Vec<Change>
         ensures updates { ShowUpdates self.old.taken self.old.history result.items }
         ensures lead { SwapsLeadFrom (state_of self.old.taken) result.items }
@@ -38,14 +36,14 @@ impl Core {
         mem::replace(&mut self.changes, next)
     }
 
-    /// How many changes came since they were taken last, or since the opening.
+    /// Returns the number of changes since they were last taken, or since the opening.
     pub fn untaken(&self) -> usize
         ensures { result ≡ untaken self.now }
     {
         self.changes.len()
     }
 
-    /// The changes since they were taken last, or since the opening, are dropped, as if they were taken. It takes no memory.
+    /// Drops the changes since they were last taken, or since the opening, as if they had been taken. It allocates nothing.
     pub fn discard_changes(&mut self)
         ensures { self.new ≡ record { history = self.old.history; taken = self.old.history } }
     {

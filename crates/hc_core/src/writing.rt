@@ -1,5 +1,5 @@
-//! Register writes: the first owed block is sent, or the first ones, as many as a frame holds, or the first ones that are not
-//! under way.
+//! Register writes in one frame: the first owed block, as many of the first owed blocks as the frame holds, or the first ones
+//! that are not under way.
 ghost use Rattle.std.specs.Prelude.{◌≡◌, ◌≢◌, ◌==◌, ◌∷◌, Err, IfErr, IfOk, IfSome, None, OnErr, OnOk, Some, length, not};
 ghost use Rattle.hc_records.specs.Lists.{lowest};
 ghost use Rattle.hc_events.specs.Calls.{further_into_faults, write_all_into_faults, write_into_faults};
@@ -27,11 +27,11 @@ use std::alloc::Global;
 pub struct SentWrites {
     /// The bytes of the frame, 60 to 1,514.
     pub size: usize,
-    /// How many blocks it writes, 1 to 74.
+    /// The number of blocks that it writes, 1 to 74.
     pub blocks: usize,
 }
 
-/// The answer to a frame of the first owed blocks: one block is answered as its write alone is.
+/// Returns the answer to a frame of owed blocks: `WriteSent` for one block, `WritesSent` for several.
 fn sent_answer(text: Items<u8>, blocks: usize) -> Answer
     ensures { result ≡ sent_answer text blocks }
 {
@@ -43,8 +43,8 @@ fn sent_answer(text: Items<u8>, blocks: usize) -> Answer
 }
 
 impl Core {
-    /// Whether a register write can be sent: `NothingOwed` where no block is owed; `SerialsSpent` where no serial is left;
-    /// and of both the first.
+    /// Checks that a register write can be sent. Fails with `NothingOwed` if no block is owed, otherwise with `SerialsSpent` if
+    /// no serial is left.
     fn can_write(&self) -> Result<(), CoreFault>
         ensures accepted { OnOk result (lowest (write_faults self.now.history (owed_blocks self.now.history)) ≡ None) }
         ensures refused { IfErr result (λ fault. lowest (write_faults self.now.history (owed_blocks self.now.history)) ≡ Some fault) }
@@ -58,8 +58,8 @@ impl Core {
         Ok(())
     }
 
-    /// The first owed blocks, one or as many as a frame holds, are sent in one frame with the next serial: it is put at the
-    /// front of `out`. It takes no memory. It is inlined, so that one block's write has no loop over blocks.
+    /// Sends the first owed blocks, one or as many as a frame holds, in one frame with the next serial. The frame is at the
+    /// start of `out`. It allocates nothing. It is inlined, so that one block's write has no loop over blocks.
     #[inline(always)]
     fn write_first(&mut self, most: usize, out: &mut [u8]) -> Result<SentWrites, CoreFault>
         requires { IsMost most }
@@ -85,7 +85,8 @@ impl Core {
         })
     }
 
-    /// Writes the frame of the first owed blocks into memory of its own.
+    /// Sends the first owed blocks in one frame with the next serial, in newly allocated memory, and returns its text and the
+    /// number of its blocks.
     fn write_text(&mut self, alloc: Global, most: usize) -> Result<(Items<u8>, usize), CoreFault>
         requires { IsMost most }
         ensures text { IfOk result (λ sent. sent.0 ≡ writes_text (next_serial self.old.history) (first_blocks most self.old.history)) }
@@ -108,9 +109,9 @@ impl Core {
         Ok((text, self.writes.blocks().len()))
     }
 
-    /// The first owed block is sent, with the next serial. `NothingOwed` where no block is owed;
-    /// `SerialsSpent` where no serial is left; and of both the first. `Memory` where a growth was refused, and
-    /// only after these. Where it is refused, nothing changed.
+    /// Sends the first owed block with the next serial, in newly allocated memory. Fails with `NothingOwed` if no block is
+    /// owed; otherwise with `SerialsSpent` if no serial is left; otherwise with `Memory` if an allocation fails. After a
+    /// failure nothing has changed.
     pub(crate) fn write(&mut self, alloc: Global) -> Result<Answer, CoreFault>
         ensures answer { IfOk result (λ returned. returned ≡ answer_to self.old.history SendsWrite) }
         ensures entries { OnOk result (self.new ≡ record self.old { history = entries_after self.old.history SendsWrite }) }
@@ -124,7 +125,7 @@ impl Core {
         Ok(Answer::WriteSent(Items::of(text)))
     }
 
-    /// The first owed blocks are sent in one frame, as many as it holds, with the next serial. Refused as `write` is.
+    /// Sends the first owed blocks in one frame, as many as it holds, with the next serial. Fails as `write` does.
     pub(crate) fn write_all(&mut self, alloc: Global) -> Result<Answer, CoreFault>
         ensures answer { IfOk result (λ returned. returned ≡ answer_to self.old.history SendsWrites) }
         ensures entries { OnOk result (self.new ≡ record self.old { history = entries_after self.old.history SendsWrites }) }
@@ -136,10 +137,9 @@ impl Core {
         Ok(sent_answer(text, blocks))
     }
 
-    /// The first owed block is sent, with the next serial: its frame is at the front of `out`, and its size is
-    /// answered. `NothingOwed` where no block is owed; `SerialsSpent` where no serial is left; `Room` with the
-    /// size needed where `out` is shorter; and of several the first of these. Then nothing changed, and the
-    /// write counts as not given. It takes no memory.
+    /// Sends the first owed block with the next serial. Its frame is at the start of `out`, and its size is returned. Fails
+    /// with the first of these: `NothingOwed` if no block is owed; `SerialsSpent` if no serial is left; `Room` with the bytes
+    /// needed if `out` is too short. After a failure nothing has changed, and nothing is sent. It allocates nothing.
     #[inline(always)]
     pub fn write_into(&mut self, out: &mut [u8]) -> Result<usize, CoreFault>
         ensures written { IfOk result (HoldsWrite self.old.history out.old out.new) }
@@ -153,12 +153,15 @@ impl Core {
         Ok(sent.size)
     }
 
-    /// The first owed blocks are sent in one frame with the next serial, in the order in which they are owed: as many as the
-    /// frame holds, whatever the length of `out`. The frame is put at the front of `out`; its size and the number of its
-    /// blocks are answered. `NothingOwed` where no block is owed; `SerialsSpent` where no serial is left; `Room` with the size
-    /// needed where `out` is shorter; and of several the first of these. Then nothing changed, and the write counts as not
-    /// given. One block has the frame that `write_into` sends. Until it is answered the same blocks are sent again. It takes no
-    /// memory (ETG.1000.4, 5.3 and 5.4; this project's profile).
+    /// Sends the first owed blocks in one frame with the next serial, in the order in which they are owed: as many as the frame
+    /// holds, whatever the length of `out`. The frame is at the start of `out`; its size and the number of its blocks are
+    /// returned. A frame of one block is the frame that `write_into` sends. Until it is answered, the same blocks are sent
+    /// again. It allocates nothing (ETG.1000.4, 5.3 and 5.4; this project's profile). It fails with the first of these that
+    /// holds, and nothing has changed then:
+    ///
+    /// - `NothingOwed`: no block is owed.
+    /// - `SerialsSpent`: no serial is left.
+    /// - `Room`: `out` is shorter than the frame; the fault has the size needed.
     pub fn write_all_into(&mut self, out: &mut [u8]) -> Result<SentWrites, CoreFault>
         ensures written { IfOk result (HoldsWrites self.old.history out.old out.new) }
         ensures accepted { OnOk result (lowest (write_all_into_faults self.old.history (length out.old)) ≡ None) }
@@ -170,15 +173,15 @@ impl Core {
         self.write_first(FRAME_BLOCKS, out)
     }
 
-    /// Whether an owed block is not under way.
+    /// True if an owed block is not under way.
     fn has_further(&self) -> bool
         ensures { result ≡ not (length (further_blocks self.now.history) == 0) }
     {
         next_further(&self.owed, &self.plan, &self.awaited, 0).is_some()
     }
 
-    /// Whether further register blocks can be sent: `NothingOwed` if no block is owed; `UnderWay` if each owed block is under
-    /// way; `SerialsSpent` if no serial is left; and of several the first.
+    /// Checks that further register blocks can be sent. Fails with the first of these: `NothingOwed` if no block is owed;
+    /// `UnderWay` if each owed block is under way; `SerialsSpent` if no serial is left.
     fn can_write_further(&self) -> Result<(), CoreFault>
         ensures accepted { OnOk result (lowest (further_faults self.now.history) ≡ None) }
         ensures refused { IfErr result (λ fault. lowest (further_faults self.now.history) ≡ Some fault) }
@@ -195,12 +198,13 @@ impl Core {
         Ok(())
     }
 
-    /// The first owed blocks that are not under way are sent in one frame with the next serial, in the order in which they are
-    /// owed: as many as the frame holds, whatever the length of `out`. A block is under way as long as the answer to its last
-    /// write may still come; `write_all_into` sends it again. The frame is put at the front of `out`; its size and the number
-    /// of its blocks are returned. Earlier frames stay under way, and each answer counts for its own blocks; exception: if a
-    /// slave was forgotten since the last write, no answer to an earlier frame counts any more (ETG.1000.4, 5.3 and 5.4; this
-    /// project's profile).
+    /// Sends the first owed blocks that are not under way in one frame with the next serial, in the order in which they are
+    /// owed. The frame has as many blocks as it holds, whatever the length of `out`. A block is under way as long as the answer
+    /// to its last write may still come; `write_all_into` sends it again. The frame is at the start of `out`; its size and the
+    /// number of its blocks are returned.
+    ///
+    /// Earlier frames stay under way, and each answer counts for its own blocks. Exception: if a slave was forgotten since the
+    /// last write, no answer to an earlier frame counts any more (ETG.1000.4, 5.3 and 5.4; this project's profile).
     ///
     /// - `NothingOwed`: no block is owed.
     /// - `UnderWay`: each owed block is under way.
@@ -208,8 +212,8 @@ impl Core {
     /// - `Room`: `out` is shorter than the frame; the fault has the size needed.
     /// - `Memory`: an allocation failed.
     ///
-    /// Of several it is the first of these. After a fault nothing has changed, `out` neither. It allocates only if more further
-    /// frames are under way than ever before, and more than two.
+    /// It fails with the first of these that holds. After a failure nothing has changed, and `out` is as it was. It allocates
+    /// only if more further frames are under way than ever before, and more than two.
     pub fn write_further_into(
         &mut self,
         alloc: Global,
@@ -250,8 +254,8 @@ impl Core {
         })
     }
 
-    /// Further owed blocks are sent in one frame, as `write_further_into` does, in memory of its own: refused as that is, but
-    /// that the frame always has room.
+    /// Sends further owed blocks in one frame as `write_further_into` does, in newly allocated memory. Fails as that does, but
+    /// never with `Room`.
     pub(crate) fn write_further(&mut self, alloc: Global) -> Result<Answer, CoreFault>
         ensures answer { IfOk result (λ returned. returned ≡ answer_to self.old.history SendsFurther) }
         ensures entries { OnOk result (self.new ≡ record self.old { history = entries_after self.old.history SendsFurther }) }
@@ -266,8 +270,8 @@ impl Core {
         Ok(sent_answer(Items::of(text), sent.blocks))
     }
 
-    /// Whether the block of the slave with this station address and a number is under way: the answer to its last write may
-    /// still come. It takes the time of all blocks that are under way, and no memory.
+    /// True if the block with this number of the slave with this station address is under way: the answer to its last write may
+    /// still come. It takes the time of all blocks that are under way, and it allocates nothing.
     pub fn is_under_way(&self, station: u16, number: u8) -> bool
         ensures { result ≡ is_under_way self.now.history station number }
     {

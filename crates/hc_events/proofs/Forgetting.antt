@@ -1,4 +1,4 @@
--- What forgetting a slave's registers changes, and that histories without it say what they said.
+-- The effect of forgetting a slave's registers. Histories without it say what they said.
 use Rattle.std.proofs.Common.{◌≡◌, ℕ, ◌==◌, Bool, true, false, cond, not, ◌&&◌, ◌||◌, List, [], ◌∷◌, map, refl, sym, ap, ◌∙◌, subst, Option, Some, None}
 use Rattle.std.specs.Prelude.{All, option_and_then}
 use Rattle.std.specs.Option.{option_map_or}

@@ -1,4 +1,4 @@
--- Where nothing is owed and nothing outside the line names a task, it is ready, and both events send it alike.
+-- A task is ready if nothing is owed and nothing outside the line names it, and both events then send it alike.
 use Rattle.std.proofs.Common.{◌≡◌, ℕ, ◌==◌, ◌&&◌, nat_lt, Bool, true, false, not, List, [], ◌∷◌, ◌++◌, length, filter, map, refl, sym, ap, ◌∙◌}
 use Rattle.std.specs.Prelude.{All}
 use Rattle.std.specs.List.{list_any}

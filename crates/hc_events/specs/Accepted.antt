@@ -1,4 +1,4 @@
--- What is known of an entry by its being accepted, and of a record by the events that led to it.
+-- The properties of an accepted entry, and of a record that events led to.
 use Rattle.std.specs.Prelude.{◌≡◌, ℕ, ◌<◌, ◌≤◌, ◌⊎◌, true, false, All, Contains, List, [], ◌∷◌, length, map, take, None}
 use Rattle.hc_records.specs.declared.limits.TheConstants.{TASKS}
 use Rattle.hc_records.specs.declared.records.Group.{Group}
@@ -26,11 +26,12 @@ pub record IsPost (line : List Member) (task : ℕ) (bytes : List ℕ) : Type 0 
   pub in_range : task < TASKS
   pub fits : length bytes ≡ output_length (task_places task line)
 
--- the frames where tasks are sent, by their datagrams
+-- the frames of a sending of tasks, by their datagrams
 abbrev pub frames_of : List Member → ℕ → List ℕ → List (List Named)
 frames_of line serial tasks = map (λ sending. sending.datagrams) (sendings_of line serial tasks)
 
--- one of the frames where a list of tasks is sent, of datagrams of the line, while nothing is owed, or each task that it carries is ready
+-- one of the frames of a sending of tasks, with datagrams of the line, while nothing is owed or each task that it carries is
+-- ready
 pub record IsFrame (history : History) (frame : List Named) : Type 0 where
   pub programmed : (owed_blocks history ≡ []) ⊎ All (λ (named : Named). is_ready history named.0 ≡ true) frame
   pub in_line : All (IsInLine (line_of history)) frame
@@ -47,7 +48,8 @@ pub record IsFirst (block : LineBlock) (blocks : List LineBlock) : Type 0 where
 abbrev pub IsFirstWrite : List LineBlock → List LineBlock → Type 0
 IsFirstWrite owed blocks = (blocks ≡ take 1 owed) ⊎ (blocks ≡ frame_blocks owed)
 
--- register blocks that one frame writes: the first of the owed ones, one or more, or the first ones that aren't under way, as many as one frame holds
+-- register blocks that one frame writes: the first of the owed ones, one or more, or the first ones that are not under way, as
+-- many as one frame holds
 pub record IsWrite (history : History) (blocks : List LineBlock) : Type 0 where
   pub some : 0 < length blocks
   pub first : IsFirstWrite (owed_blocks history) blocks ⊎ (blocks ≡ frame_blocks (further_blocks history))
@@ -60,7 +62,7 @@ carries_first (Wrote blocks ∷ history) serial =
     (next_serial history ≡ serial → IsFirstWrite (owed_blocks history) blocks) × carries_first history serial
 carries_first (entry ∷ history) serial = carries_first history serial
 
--- a declared slave is cleared; where it is in the line it was forgotten first, so none of its writes counts
+-- a declared slave is cleared; if it is in the line it was forgotten first, so that none of its writes counts
 pub record IsClearing (history : History) (station : ℕ) : Type 0 where
   pub declared : is_declared_station (state_of history) station ≡ true
   pub forgotten : is_in_line history station ≡ true → (number : ℕ) → last_write history station number ≡ None
@@ -82,7 +84,7 @@ IsAccepted history (Forgot station) = is_in_line history station ≡ true
 IsAccepted history (Cleared station) = IsClearing history station
 IsAccepted history (Unplugged station) = IsUnplugging history station
 
--- the record of a project where nothing has happened, and what events make of it
+-- the record of a project in which nothing has happened
 abbrev pub just_opened : List Group → History
 just_opened groups = Opened groups ∷ []
 
@@ -96,7 +98,8 @@ AreAccepted [] = ⊥
 AreAccepted (Opened groups ∷ history) = history ≡ []
 AreAccepted (entry ∷ history) = IsAccepted history entry × AreAccepted history
 
--- what holds of each record that events lead to, and what a law of such records asks for: each entry after the opening was accepted when it came, and there are no more sendings than serials
+-- the property of each record that events lead to, which the laws of such records require: each entry after the opening was
+-- accepted when it came, and there are no more sendings than serials
 pub record IsReachable (history : History) : Type 0 where
   pub accepted : AreAccepted history
   pub few : next_serial history ≤ SETUP_SERIAL
@@ -106,6 +109,6 @@ pub record IsLedTo (groups : List Group) (history : History) : Type 0 where
   pub reachable : IsReachable history
   pub groups_are : opened_with history ≡ groups
 
--- so is each
+-- each record that events lead to is such a record (`IsLedTo`)
 abbrev pub RecordsAreReachable : Type 0
 RecordsAreReachable = (groups : List Group) (steps : List Step) → IsLedTo groups (history_of groups steps)

@@ -1,4 +1,4 @@
--- What holds of answers: an arrival answers a sending as its first one, and what is awaited is what arrivals can answer.
+-- Laws of answers: an arrival answers a sending as its first one, and the awaited sendings are those that arrivals can answer.
 use Rattle.std.specs.Prelude.{◌≡◌, ◌↔◌, ℕ, ◌<◌, ◌≤◌, ◌==◌, ◌&&◌, not, Bool, true, false, if◌then◌else◌, All, Contains, List, [], ◌∷◌, ◌++◌, length, map, Some, None, Ok}
 use Rattle.std.specs.List.{flat_map, list_all, list_any, zip}
 use Rattle.hc_records.specs.declared.records.Group.{Group}
@@ -44,8 +44,8 @@ AnswersTheSerial =
     (history : History) (arrival : Arrival) (sending : Sending)
     → (answered_by history arrival ≡ Some sending) ↔ IsFirstAnswer history arrival sending
 
--- what a sending says of a datagram is what the line says of it: of this datagram of a task, or of one of the line's register blocks,
--- which is the one that the sending's head names, since its write has this head
+-- the head of an item is that of the line: the head of this datagram of a task, or of one of the line's register blocks, which
+-- is the one that the sending's head names, since its write has this head
 abbrev pub IsItemOf : List Member → Item → Head → Type 0
 IsItemOf line (DatagramItem task d) head = IsInLine line (task, d) × (head ≡ data_head line (task, d))
 IsItemOf line (Block station number) head = (block : LineBlock) × Contains (line_blocks line) block × (head ≡ write_head block)
@@ -73,12 +73,12 @@ pub record IsAnsweredAs (history : History) (arrival : Arrival) (sending : Sendi
   pub heads : answered.heads ≡ sending.heads
   pub judged : judged_by history arrival ≡ judged arrival sending
 
--- an arrival is no stale one just where it is awaited, and then it answers what is awaited
+-- an arrival is not stale exactly if it is awaited, and then it answers the awaited sending
 pub record AnswersTheAwaited (history : History) (arrival : Arrival) : Type 0 where
   pub updates : (is_stale_to history arrival ≡ false) ↔ IsAwaited history arrival
   pub answers : (a : IsAwaited history arrival) → IsAnsweredAs history arrival a.sending
 
--- so it is of any record and any arrival
+-- `AnswersTheAwaited` holds for any record and any arrival
 abbrev pub AwaitedAreAnswered : Type 0
 AwaitedAreAnswered = (history : History) (arrival : Arrival) → AnswersTheAwaited history arrival
 
@@ -87,7 +87,8 @@ abbrev pub HasOwnNames : List Member → Type 0
 HasOwnNames line =
     (a b : LineBlock) → Contains (line_blocks line) a → Contains (line_blocks line) b → same_item (block_item a) (block_item b) ≡ true → a ≡ b
 
--- so it is in the line of any project's state: `Project::groups` gives the condition of the opened groups, and `Plan` of the state's after its edits
+-- `HasOwnNames` holds for the line of any project's state: `Project::groups` returns the condition of the opened groups, and
+-- `Plan` that of the state's groups after its edits
 abbrev pub ProjectsHaveOwnNames : Type 0
 ProjectsHaveOwnNames = (state : State) → lowest_fault (groups_of state.groups) ≡ None → HasOwnNames (line state)
 
@@ -96,14 +97,16 @@ pub record IsBesideOne (older newer : Sending) : Type 0 where
   pub one : length newer.heads ≡ 1
   pub more : 1 < length older.heads
 
--- so it is with any two that are awaited and carry the first owed blocks, whatever further frames were sent beside them: each later frame of several blocks carries all that is awaited of such a frame, and so does a single write where a single write is. So at most two of them are awaited, no two of them of several blocks
+-- `IsBesideOne` holds for any two awaited frames that carry the first owed blocks, whatever further frames were sent beside
+-- them. A later frame of several blocks carries all awaited blocks of an earlier one, and so does a single write after a single
+-- write. At most two such frames are awaited, and no two of them have several blocks
 abbrev pub TwoWritesAreAwaited : Type 0
 TwoWritesAreAwaited =
     (history : History) (low high : ℕ) (older newer : Sending) → IsReachable history → HasOwnNames (line_of history) → carries_first history low → carries_first history high → low < high
     → awaited history low ≡ Some older → is_write_sending older ≡ true → awaited history high ≡ Some newer → is_write_sending newer ≡ true
     → IsBesideOne older newer
 
--- where each register write was sent in a frame of its own, of two that carry the first owed block only one is awaited
+-- if each register write was sent in a frame of its own, only one of two that carry the first owed block is awaited
 abbrev pub OneWriteIsAwaited : Type 0
 OneWriteIsAwaited =
     (history : History) (serial other : ℕ) (write sending : Sending) → IsReachable history → HasOwnNames (line_of history)
@@ -127,7 +130,7 @@ abbrev pub sends_ready : Step → Bool
 sends_ready (SendsReady tasks) = true
 sends_ready step = false
 
--- so it is in each record of events without such a sending
+-- `sent_programmed` holds for each record of events without a sending of ready tasks
 abbrev pub SendTasksAreProgrammed : Type 0
 SendTasksAreProgrammed = (groups : List Group) (steps : List Step) → list_any sends_ready steps ≡ false → sent_programmed (history_of groups steps) ≡ true
 
@@ -144,14 +147,15 @@ sent_datagrams history (Sent frame) = map (sent_datagram history) frame
 sent_datagrams history (Wrote blocks) = map block_datagram blocks
 sent_datagrams history entry = []
 
--- of a task's datagram that came back with its expected working counter and wasn't sent again since, the data that came back
+-- the data of a task's datagram that came back with its expected working counter and was not sent again since
 abbrev pub good_part : List HistoryEntry → List Member → Named × Part → List NewAnswer
 good_part since line pair =
     if not (list_any (sends (item_of pair.0)) since) && (pair.1.counter == expected_counter pair.0.0 pair.0.1 line)
     then record { task = pair.0.0; datagram = pair.0.1; bytes = pair.1.bytes } ∷ []
     else []
 
--- the `good_part` of each datagram of a frame with the part in its place, in order, as far as both go; none of an entry that isn't a frame of tasks
+-- the `good_part` of each datagram of a frame with the part in its place, in order, as far as both go; none for an entry that
+-- is not a frame of tasks
 abbrev pub good_parts : List HistoryEntry → List Member → HistoryEntry → List Part → List NewAnswer
 good_parts since line (Sent frame) parts = flat_map (good_part since line) (zip frame parts)
 good_parts since line entry parts = []

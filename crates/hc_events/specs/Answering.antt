@@ -38,7 +38,7 @@ abbrev pub has_head : Head → Part → Bool
 has_head head part =
     (code_of head.command == code_of part.command) && (head.address == part.address) && (head.length == length part.bytes)
 
--- the same for each datagram, in order and none missing
+-- each part has the head of its datagram, in order, with none missing and none left over
 abbrev pub has_heads : List Head → List Part → Bool
 has_heads [] [] = true
 has_heads [] (part ∷ parts) = false
@@ -55,16 +55,17 @@ ends serial heads (Edited edit) = true
 ends serial heads (Came arrival) = fits_sending serial heads arrival
 ends serial heads entry = false
 
--- an arrival answers a sending, which has its serial, where it fits it, and since then no edit was accepted and none that fits came
+-- an arrival answers a sending, which has its serial: it fits the sending, and since then no edit was accepted and no other
+-- arrival that fits came
 abbrev pub is_answer : Arrival → Sending → Bool
 is_answer arrival sending =
     fits_sending arrival.serial sending.heads arrival && not (list_any (ends arrival.serial sending.heads) sending.since)
 
--- `x` where it passes the test, else none
+-- `x` if it passes the test, otherwise none
 abbrev pub only_if : {X : Type 0} → (X → Bool) → X → Option X
 only_if test x = if test x then Some x else None
 
--- the sending that an arrival answers: the one with its serial, where the arrival is an answer to it; none otherwise
+-- the sending that an arrival answers: the one with its serial, if the arrival is an answer to it; otherwise none
 abbrev pub answered_by : History → Arrival → Option Sending
 answered_by history arrival = option_and_then (only_if (is_answer arrival)) (sending_of history arrival.serial)
 
@@ -95,17 +96,18 @@ abbrev pub is_dropped : Item → List HistoryEntry → Bool
 is_dropped (Datagram task d) since = false
 is_dropped (Block station number) since = list_any (forgets station) since || starts_over since
 
--- what was sent is out of date: it was dropped or sent again since
+-- an item that was sent is out of date: it was dropped or sent again since
 abbrev pub is_outdated : Item → List HistoryEntry → Bool
 is_outdated item since = is_dropped item since || list_any (sends item) since
 
--- what an answer is for a datagram: good by its working counter, wrong by it, or stale where the datagram or block was sent again since, or the block's write was dropped
+-- the verdict on an answer to a datagram: good by its working counter, wrong by it, or stale if the datagram or block was sent
+-- again since, or if the block's write was dropped
 pub data Verdict : Type 0 where
   Good : Verdict
   Wrong : Verdict
   Stale : Verdict
 
--- the verdict is `Good`: the expected working counter came back, and the datagram isn't out of date
+-- the verdict is `Good`: the expected working counter came back, and the datagram is not out of date
 abbrev pub is_good : Verdict → Bool
 is_good Good = true
 is_good Wrong = false
@@ -117,7 +119,8 @@ is_stale Good = false
 is_stale Wrong = false
 is_stale Stale = true
 
--- what came back of a datagram is stale where it is out of date (`is_outdated`), else good where its working counter is the expected one, else wrong
+-- the verdict on a part that came back: stale if its datagram is out of date (`is_outdated`), otherwise good if its working
+-- counter is the expected one, otherwise wrong
 abbrev pub verdict : List HistoryEntry → Head → Part → Verdict
 verdict since head part =
     if is_outdated head.item since then Stale else (if part.counter == head.expected then Good else Wrong)
@@ -132,11 +135,12 @@ pub record Judged : Type 0 where
 abbrev pub judge : List HistoryEntry → Head × Part → Judged
 judge since pair = record { head = pair.0; part = pair.1; verdict = verdict since pair.0 pair.1 }
 
--- the sending's heads in order, each with the arrival's datagram in its place and the verdict, as far as both go; whether the arrival fits isn't looked at
+-- the sending's heads in order, each with the arrival's datagram in its place and the verdict, as far as both go; the fit of
+-- the arrival is not tested
 abbrev pub judged : Arrival → Sending → List Judged
 judged arrival sending = map (judge sending.since) (zip sending.heads arrival.parts)
 
--- the datagrams of the sending that an arrival answers; none where it answers none
+-- the datagrams of the sending that an arrival answers; none if it answers none
 abbrev pub judged_by : History → Arrival → List Judged
 judged_by history arrival = option_map_or (judged arrival) (answered_by history arrival) []
 
@@ -148,6 +152,6 @@ is_current datagram = not (is_stale datagram.verdict)
 abbrev pub has_good : Judged → Bool
 has_good datagram = is_good datagram.verdict
 
--- an arrival is stale where it answers no sending, or each datagram is stale
+-- an arrival is stale if it answers no sending, or if each datagram is stale
 abbrev pub is_stale_to : History → Arrival → Bool
 is_stale_to history arrival = not (list_any is_current (judged_by history arrival))

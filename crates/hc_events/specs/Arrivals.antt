@@ -1,4 +1,4 @@
--- A frame that arrived: the fault why it can't be read, or its serial and its datagrams.
+-- A frame that arrived: the fault why it cannot be read, or its serial and its datagrams.
 use Rattle.std.specs.Prelude.{ℕ, List, Option, Some, None, Result, Ok, Err}
 use Rattle.hc_frames.specs.Arrived.{Reading, fault_in, reading_of}
 use Rattle.hc_frames.specs.FrameText.{WireDatagram}
@@ -12,11 +12,11 @@ Part = WireDatagram
 abbrev pub Arrival : Type 0
 Arrival = Reading
 
--- the arrival where there is no fault, else the fault
+-- the arrival if there is no fault, otherwise the fault
 abbrev pub read_unless : Option FrameFault → Arrival → Result Arrival FrameFault
 read_unless None arrival = Ok arrival
 read_unless (Some fault) arrival = Err fault
 
--- what bytes that arrived are read as: the first fault why they can't be read (`fault_in`), or else their serial and datagrams
+-- the reading of bytes that arrived: the first fault why they cannot be read (`fault_in`), or their serial and datagrams
 abbrev pub arrival_in : List ℕ → Result Arrival FrameFault
 arrival_in bytes = read_unless (fault_in bytes) (reading_of bytes)

@@ -18,13 +18,14 @@ abbrev pub is_no_arrival : HistoryEntry → Bool
 is_no_arrival (Came arrival) = false
 is_no_arrival entry = true
 
--- a sending that neither ended nor is wholly out of date, without the arrivals since then: those that don't end it say nothing of it
+-- a sending that neither ended nor is wholly out of date, without the arrivals since then: those that do not end it say nothing
+-- of it
 abbrev pub still_awaited : ℕ → Sending → Option Sending
 still_awaited serial sending =
     if is_ended serial sending || all_outdated sending.since sending.heads then None
     else Some (record { heads = sending.heads; since = filter is_no_arrival sending.since })
 
--- what is awaited with a serial
+-- the awaited sending with a serial, or none
 abbrev pub awaited : History → ℕ → Option Sending
 awaited history serial = option_and_then (still_awaited serial) (sending_of history serial)
 

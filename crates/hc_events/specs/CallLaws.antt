@@ -1,4 +1,4 @@
--- What holds of what the calls of a core ask of the caller's bytes: the sizes are the texts'.
+-- Laws of the bytes that the calls of a core need from the caller: the sizes are those of the texts.
 use Rattle.std.specs.Prelude.{◌≡◌, ℕ, List, [], ◌∷◌, length, Some}
 use Rattle.std.specs.List.{flat_map}
 use Rattle.hc_registers.specs.Blocks.{LineBlock}
@@ -14,13 +14,13 @@ use Rattle.hc_events.specs.Calls.{frames_size, preview, write_size}
 abbrev pub FramesFillTheirBytes : Type 0
 FramesFillTheirBytes = (history : History) (tasks : List ℕ) → length (flat_map (sent_text history) (proposal history tasks)) ≡ frames_size history tasks
 
--- so has the text that writes the first owed block
+-- the text that writes the first owed block has the bytes that are asked for
 abbrev pub WritesFillTheirBytes : Type 0
 WritesFillTheirBytes =
     (history : History) (block : LineBlock) (rest : List LineBlock) → owed_blocks history ≡ block ∷ rest
     → length (write_text (next_serial history) block) ≡ write_size (owed_blocks history)
 
--- so has the text of the frame that writes these blocks
+-- the text of the frame that writes these blocks has the bytes that are asked for
 abbrev pub WriteFramesFillTheirBytes : Type 0
 WriteFramesFillTheirBytes = (serial : ℕ) (blocks : List LineBlock) → length (writes_text serial blocks) ≡ writes_size blocks
 
@@ -30,6 +30,6 @@ pub record IsPreview (history : History) (task d : ℕ) (frame : Frame) : Type 0
   pub datagrams : frame.datagrams ≡ (task, d) ∷ []
   pub size : length (sent_text history frame) ≡ sent_frame_size frame
 
--- so is any preview that a record has
+-- `IsPreview` holds for any preview that a record has
 abbrev pub PreviewsAreFrames : Type 0
 PreviewsAreFrames = (history : History) (task d : ℕ) (frame : Frame) → preview history task d ≡ Some frame → IsPreview history task d frame

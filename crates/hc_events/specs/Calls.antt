@@ -1,4 +1,5 @@
--- What the calls of a core add to the answers: refused memory, a slice of the caller's that is too short, and what the caller keeps to.
+-- The additions of a core's calls to the answers: refused memory, a slice of the caller's that is too short, and the conditions
+-- on the caller.
 use Rattle.std.specs.Prelude.{◌≡◌, ℕ, ◌+◌, ◌<◌, ◌≤◌, ◌⊎◌, ◌&&◌, nat_le, nat_lt, not, Bool, true, false, if◌then◌else◌, List, [], ◌∷◌, ◌++◌, length, sum_by, Option, Some, None, drop}
 use Rattle.std.specs.List.{flat_map}
 use Rattle.hc_records.specs.declared.limits.TheConstants.{TASKS}
@@ -18,7 +19,8 @@ use Rattle.hc_events.specs.Owed.{owed_blocks}
 use Rattle.hc_events.specs.UnderWay.{further_blocks}
 use Rattle.hc_events.specs.WriteFrames.{frame_blocks, writes_size}
 
--- an event takes memory for what it answers or for what is kept after it; a post takes none, steady or not, since the room for its values was taken at the opening or by an accepted edit; forgetting a slave's registers takes none, nor does clearing or unplugging a slave
+-- an event allocates for its answer or for the state after it. A post allocates nothing, steady or not, since the memory for
+-- its values was allocated at the opening or by an accepted edit. Forgetting, clearing and unplugging a slave allocate nothing
 abbrev pub takes_memory : Step → Bool
 takes_memory (Posts task epoch bytes) = false
 takes_memory (PostsSteady task epoch bytes) = false
@@ -38,11 +40,12 @@ pub record IsOutOfMemory (history : History) (step : Step) (returned : Answer) (
   pub answer : returned ≡ answer.Refused Memory
   pub entries : next ≡ history
 
--- what may be answered to an event, and the record that is then left: `Memory` may take the place of any answer to an event that takes some
+-- the answer that an event may have, and the record that is then left: `Memory` may take the place of any answer to an event
+-- that allocates
 abbrev pub MayAnswer : History → Step → Answer → History → Type 0
 MayAnswer history step returned next = IsAnswered history step returned next ⊎ IsOutOfMemory history step returned next
 
--- so many bytes are needed, and the slice has fewer
+-- the fault of a slice with fewer bytes than are needed
 abbrev pub room_faults : ℕ → ℕ → List (Bool × CoreFault)
 room_faults needed bytes = (nat_lt bytes needed, Room needed) ∷ []
 
@@ -51,7 +54,8 @@ abbrev pub write_size : List LineBlock → ℕ
 write_size [] = 0
 write_size (block ∷ blocks) = frame_bytes (12 + length block.block.bytes)
 
--- it goes into a slice of so many bytes: refused as the event is, and after that where the slice is too short
+-- the faults of writing the first owed block into a slice of so many bytes: those of the event, then the fault of a slice that
+-- is too short
 abbrev pub write_into_faults : History → ℕ → List (Bool × CoreFault)
 write_into_faults history bytes = write_faults history (owed_blocks history) ++ room_faults (write_size (owed_blocks history)) bytes
 
@@ -59,11 +63,12 @@ write_into_faults history bytes = write_faults history (owed_blocks history) ++ 
 abbrev pub write_all_into_faults : History → ℕ → List (Bool × CoreFault)
 write_all_into_faults history bytes = write_faults history (owed_blocks history) ++ room_faults (writes_size (frame_blocks (owed_blocks history))) bytes
 
--- the frame that writes the first owed blocks that aren't under way, as many as it holds, goes into a slice of so many bytes: refused in the same way
+-- the faults of writing a further frame into a slice of so many bytes: those of the event, then the fault of a slice that is
+-- too short. The frame writes the first owed blocks that are not under way, as many as it holds
 abbrev pub further_into_faults : History → ℕ → List (Bool × CoreFault)
 further_into_faults history bytes = further_faults history ++ room_faults (writes_size (frame_blocks (further_blocks history))) bytes
 
--- the bytes of the frames where tasks are sent
+-- the bytes of the frames of a sending of tasks
 abbrev pub frames_size : History → List ℕ → ℕ
 frames_size history tasks = sum_by sent_frame_size (proposal history tasks)
 
@@ -79,21 +84,23 @@ send_into_faults history tasks bytes = task_faults history tasks ++ room_faults 
 abbrev pub ready_into_faults : History → List ℕ → ℕ → List (Bool × CoreFault)
 ready_into_faults history tasks bytes = ready_faults history tasks ++ room_faults (frames_size history tasks) bytes
 
--- what the caller keeps to who sends tasks: at least one, as many as there are tasks at most, and none twice; whether there is such a task is judged by the event
+-- the condition on a caller that sends tasks: they are at least one and at most as many as there are tasks, and none twice. A
+-- number that is no task's is judged by the event
 pub record AreSentTogether (tasks : List ℕ) : Type 0 where
   pub some : 0 < length tasks
   pub most : length tasks ≤ TASKS
   pub distinct : has_repeat tasks ≡ false
 
--- the same as a test
+-- a test that tasks are at least one, at most as many as there are tasks, and none twice
 abbrev pub are_together : List ℕ → Bool
 are_together tasks = nat_lt 0 (length tasks) && nat_le (length tasks) TASKS && not (has_repeat tasks)
 
--- the tasks, where they can be sent together; else none
+-- the tasks, if they can be sent together; otherwise none
 abbrev pub if_together : List ℕ → Option (List ℕ)
 if_together tasks = if are_together tasks then Some tasks else None
 
--- the frame of one datagram alone as it would be sent next, whether or not blocks are owed; none where the task has no such datagram or no serial is left
+-- the frame of one datagram alone as it would be sent next, even if blocks are owed; none if the task has no such datagram or
+-- no serial is left
 abbrev pub preview : History → ℕ → ℕ → Option Frame
 preview history task d =
     if nat_lt d (datagram_count (task_places task (line_of history))) && has_serials history 1

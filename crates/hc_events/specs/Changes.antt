@@ -1,4 +1,4 @@
--- What a reader of the input images gets, and what it follows from it without the record.
+-- The changes that a reader of the input images gets, and the state that it derives from them without the record.
 use Rattle.std.specs.Prelude.{◌≡◌, ℕ, ◌+◌, ◌<◌, IsOk, List, [], ◌∷◌, ◌++◌, length, map, Option, None}
 use Rattle.hc_records.specs.declared.edit.Edit.{Edit}
 use Rattle.hc_records.specs.declared.records.Group.{Group}
@@ -25,7 +25,7 @@ updates_of (Edited edit ∷ history) = updates_of history ++ Swapped edit ∷ []
 updates_of (Came arrival ∷ history) = updates_of history ++ map Answered (new_answer_by history arrival)
 updates_of (entry ∷ history) = updates_of history
 
--- what a change gives: a swap names its edit
+-- the update of a change: a swap names its edit
 abbrev pub update_in : Change → Update
 update_in (change.Swapped swap) = Swapped swap.edit
 update_in (change.Good good) = Answered good
@@ -52,7 +52,7 @@ AreLegalFrom state (change.Good good ∷ changes) = IsAnswerIn state good.task g
 abbrev pub AreLegal : List Group → List Change → Type 0
 AreLegal groups changes = AreLegalFrom (opened groups) changes
 
--- what a list of changes leads to by itself, without any edit or arrival: the table, the epoch, and the datagrams' data
+-- the table, the epoch, and the datagrams' data that a list of changes leads to by itself, without any edit or arrival
 abbrev pub table_after : Table → List Change → Table
 table_after table [] = table
 table_after table (change.Swapped swap ∷ changes) = table_after (swapped swap.change table) changes

@@ -1,4 +1,4 @@
--- What holds of the data that are sent.
+-- Laws of the data that are sent.
 use Rattle.std.specs.Prelude.{◌≡◌, ℕ, ◌+◌, ◌*◌, ◌<◌, ◌≤◌, List, length, Some, None}
 use Rattle.hc_records.specs.declared.limits.TheConstants.{TASKS}
 use Rattle.hc_records.specs.declared.records.Dir.TheVariants.{Out}
@@ -33,7 +33,9 @@ pub record IsSentData (history : History) (task d : ℕ) (bytes : List ℕ) : Ty
       (k : ℕ) → k < 8 * length bytes → ((variable : ℕ) (place : VariablePlace) → IsOutputOf (line_of history) task d variable place → ¬ (LiesIn place k))
       → bit_of bytes k ≡ 0
 
--- so it is for each task (a higher number is refused before anything is sent) where the state is one of a project: `Project::groups` gives the opened groups', and `Plan` the state's after its edits
+-- the sent data are the values of the output variables for each task, if the state is one of a project: `Project::groups`
+-- returns the condition of the opened groups, and `Plan` that of the state's groups after its edits. A higher number is refused
+-- before anything is sent
 abbrev pub SentDataAreValues : Type 0
 SentDataAreValues =
     (history : History) (task d : ℕ) → lowest_fault (groups_of (state_of history).groups) ≡ None → task < TASKS

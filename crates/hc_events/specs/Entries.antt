@@ -1,4 +1,4 @@
--- What the core accepted since a project was opened. A record is a list of entries, the newest first.
+-- The record of accepted events since a project was opened: a list of entries, the newest first.
 use Rattle.std.specs.Prelude.{ℕ, List}
 use Rattle.hc_records.specs.declared.records.Group.{Group}
 use Rattle.hc_records.specs.declared.edit.Edit.{Edit}

@@ -69,7 +69,7 @@ edit_refusal edit.VariableTaken = VariableTaken
 edit_refusal edit.TooManyGroups = TooManyGroups
 edit_refusal edit.TooManySlaves = TooManySlaves
 
--- and so is a frame that can't be read
+-- the refusal of a frame that cannot be read
 abbrev pub frame_refusal : FrameFault → CoreFault
 frame_refusal frame.Short = Short
 frame_refusal frame.NotEtherCat = NotEtherCat

@@ -1,4 +1,5 @@
--- What holds of slaves whose registers are forgotten, and of histories where none is and each register write has a frame of its own.
+-- Laws of slaves whose registers are forgotten, and of histories in which none is forgotten and each register write has a frame
+-- of its own.
 use Rattle.std.specs.Prelude.{◌≡◌, ℕ, ◌==◌, ◌&&◌, ◌||◌, not, Bool, true, false, All, List, ◌∷◌, length, map, None, Some}
 use Rattle.std.specs.List.{list_all, list_any}
 use Rattle.hc_records.specs.declared.records.Group.{Group}
@@ -24,7 +25,7 @@ abbrev pub is_of_other : ℕ → Item → Bool
 is_of_other station (Datagram task d) = false
 is_of_other station (Block other number) = not (other == station)
 
--- of what a sending carries something is another slave's block that isn't out of date
+-- a sending carries another slave's block that is not out of date
 abbrev pub carries_other : ℕ → Sending → Bool
 carries_other station sending = list_any (λ head. is_of_other station head.item && not (is_outdated head.item sending.since)) sending.heads
 
@@ -50,7 +51,7 @@ pub record IsForgotten (history : History) (station : ℕ) : Type 0 where
   pub judged :
       (since : List HistoryEntry) (item : Item) → is_of_other station item ≡ true → is_outdated item (Forgot station ∷ since) ≡ is_outdated item since
 
--- so it is with any slave in any history
+-- `IsForgotten` holds for any slave in any history
 abbrev pub ForgettingLosesRegistersAlone : Type 0
 ForgettingLosesRegistersAlone = (history : History) (station : ℕ) → IsForgotten history station
 
@@ -64,7 +65,7 @@ ForgottenWritesAreStale =
     (history : History) (arrival : Arrival) (sending : Sending) (station : ℕ) → answered_by history arrival ≡ Some sending
     → list_any (forgets station) sending.since ≡ true → All (IsStaleFor station) (judged_by history arrival)
 
--- what such a history says is what the words for such histories say
+-- the words of a history say what the words for histories without forgetting say
 pub record SaysAsAtFirst (history : History) : Type 0 where
   pub judged : (arrival : Arrival) → first.judged_by history arrival ≡ judged_by history arrival
   pub awaits : (serial : ℕ) → first.awaited history serial ≡ awaited history serial
@@ -79,7 +80,8 @@ abbrev pub writes_one : HistoryEntry → Bool
 writes_one (Wrote blocks) = length blocks == 1
 writes_one entry = true
 
--- so it is with each such history where every register write was sent in a frame of its own
+-- `SaysAsAtFirst` holds for each history in which no slave was forgotten and every register write was sent in a frame of its
+-- own
 abbrev pub HistoriesWithoutForgetting : Type 0
 HistoriesWithoutForgetting =
     (history : History) → list_any is_forgetting history ≡ false → list_all writes_one history ≡ true → SaysAsAtFirst history
@@ -89,6 +91,6 @@ pub record AreAnsweredAsAtFirst (groups : List Group) (steps : List FirstStep) :
   pub answers : first.answers_to (just_opened groups) steps ≡ answers_to (just_opened groups) (map step_of steps)
   pub entries : first.entries_after_all (just_opened groups) steps ≡ entries_after_all (just_opened groups) (map step_of steps)
 
--- so it is with any such events of any project
+-- `AreAnsweredAsAtFirst` holds for any such events of any project
 abbrev pub EventsWithoutForgetting : Type 0
 EventsWithoutForgetting = (groups : List Group) (steps : List FirstStep) → AreAnsweredAsAtFirst groups steps

@@ -1,4 +1,4 @@
--- What a sent frame says of each of its datagrams, and the working counter that is expected back.
+-- The heads of a sent frame's datagrams, with the working counter that is expected back.
 use Rattle.std.specs.Prelude.{ℕ, ◌==◌, ◌&&◌, Bool, true, false, List, length, map}
 use Rattle.hc_records.specs.Line.{Member}
 use Rattle.hc_registers.specs.Blocks.{LineBlock}
@@ -9,7 +9,8 @@ use Rattle.hc_frames.specs.FrameText.{station_address}
 use Rattle.hc_registers.specs.declared.counters.TheConstants.{WRITE_COUNT}
 use Rattle.hc_events.specs.Sendings.{Named}
 
--- what a datagram carries: a task's datagram, by the task and its number; a register block, by the slave's station address and its number in the slave's order
+-- the item of a datagram: a task's datagram, by the task and its number; or a register block, by the slave's station address
+-- and its number in the slave's order
 pub data Item : Type 0 where
   Datagram : ℕ → ℕ → Item
   Block : ℕ → ℕ → Item
@@ -26,7 +27,7 @@ abbrev pub is_block : Item → Bool
 is_block (Datagram task d) = false
 is_block (Block station number) = true
 
--- what a datagram carries, its command, address and number of data bytes, and its expected working counter
+-- the head of a datagram: its item, its command, its address, its number of data bytes, and its expected working counter
 pub record Head : Type 0 where
   pub item : Item
   pub command : Command

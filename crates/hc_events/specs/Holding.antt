@@ -1,4 +1,5 @@
--- What the register of a block may hold (this project's profile). The known bytes are what it holds; where nothing is known this says what it may hold all the same.
+-- The bytes that the register of a block may hold (this project's profile). A register with known bytes holds these; if nothing
+-- is known, these definitions still tell the bytes that it may hold.
 use Rattle.std.specs.Prelude.{ℕ, ◌==◌, ◌&&◌, ◌||◌, not, Bool, true, false, if◌then◌else◌, List, [], ◌∷◌, Option}
 use Rattle.std.specs.Option.{option_map_or}
 use Rattle.std.specs.List.{list_any}
@@ -38,11 +39,12 @@ abbrev pub held_after_answer : Bool → Option (ℕ × List ℕ) → MayHold →
 held_after_answer good write held =
     if good then record { unknown = false; contents = option_map_or (λ (found : ℕ × List ℕ). found.1 ∷ []) write [] } else held
 
--- the slave with a station address isn't in the line, and the edit brings it there
+-- the slave with a station address is not in the line, and the edit brings it there
 abbrev pub comes : History → Edit → ℕ → Bool
 comes history edit station = not (is_in_line history station) && is_in_line (Edited edit ∷ history) station
 
--- what the register of the block with a number may hold in the slave with a station address. Forgotten registers, answers that are stale or that missed, and edits that don't bring the slave change nothing of it
+-- the bytes that the register of the block with a number may hold in the slave with a station address. Forgotten registers,
+-- answers that are stale or that missed, and edits that do not bring the slave change nothing of it
 abbrev pub may_hold : History → ℕ → ℕ → MayHold
 may_hold [] station number = unknown_register
 may_hold (Opened groups ∷ history) station number = unknown_register
@@ -53,7 +55,7 @@ may_hold (Came arrival ∷ history) station number =
 may_hold (Cleared other ∷ history) station number = if station == other then cleared_register else may_hold history station number
 may_hold (entry ∷ history) station number = may_hold history station number
 
--- the slave with a station address was said to be unplugged, and hasn't been in the line since
+-- the slave with a station address was reported to be unplugged, and has not been in the line since
 abbrev pub is_unplugged : History → ℕ → Bool
 is_unplugged [] station = false
 is_unplugged (Opened groups ∷ history) station = false

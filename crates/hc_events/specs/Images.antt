@@ -1,4 +1,4 @@
--- What a task reads: for each datagram of the present epoch the data of its last good answer in it, or none.
+-- The data that a task reads: for each datagram of the present epoch the data of its last good answer in it, or none.
 use Rattle.std.specs.Prelude.{ℕ, ◌==◌, ◌<◌, ◌≤◌, ◌&&◌, Bool, if◌then◌else◌, List, [], ◌∷◌, fold, length, map, Option, Some, None}
 use Rattle.std.specs.List.{flat_map, range_with_len}
 use Rattle.hc_records.specs.declared.limits.TheConstants.{MOST_DATAGRAMS, MOST_DATAGRAM_BYTES, TASKS}
@@ -26,7 +26,7 @@ abbrev pub new_answer_item : Item → List ℕ → List NewAnswer
 new_answer_item (Datagram task d) bytes = record { task = task; datagram = d; bytes = bytes } ∷ []
 new_answer_item (Block station number) bytes = []
 
--- the good answer that a judged datagram gives its task, in a list of one; empty where it isn't good or is a register block
+-- the good answer that a judged datagram is for its task, in a list of one; empty if it is not good or is a register block
 abbrev pub new_answer : Judged → List NewAnswer
 new_answer datagram = if has_good datagram then new_answer_item datagram.head.item datagram.part.bytes else []
 
@@ -38,7 +38,8 @@ new_answer_by history arrival = flat_map new_answer (judged_by history arrival)
 abbrev pub is_for : ℕ → ℕ → NewAnswer → Bool
 is_for task d good = (good.task == task) && (good.datagram == d)
 
--- the data of a datagram once a good answer came: that answer's where it is of this datagram, else those of `slot`, if any
+-- the data of a datagram once a good answer came: those of the answer if it is of this datagram, otherwise those of `slot`, if
+-- any
 abbrev pub renewed : ℕ → ℕ → Option (List ℕ) → NewAnswer → Option (List ℕ)
 renewed task d slot good = if is_for task d good then Some good.bytes else slot
 

@@ -1,4 +1,4 @@
--- What follows from the definitions, so that a reader can trust them. Each is the contract of a function of `laws`.
+-- Laws that follow from the definitions. Each is the contract of a function of `laws`.
 use Rattle.std.specs.Prelude.{◌≡◌, ℕ, IsNone, IsSome, IsTrue, List, ◌∷◌, length, map, Some, None}
 use Rattle.std.specs.List.{list_any, range_with_len}
 use Rattle.hc_records.specs.declared.edit.Edit.{Edit}

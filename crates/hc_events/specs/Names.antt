@@ -1,4 +1,5 @@
--- What a frame that came back names by the addresses in it: FPWR addresses a slave by its station address and a register (ETG.1000.4, 5.4), LRW a task's datagram by its logical address (this project's profile).
+-- The names of a returned frame's datagrams, by the addresses in it: FPWR addresses a slave by its station address and a
+-- register (ETG.1000.4, 5.4), LRW a task's datagram by its logical address (this project's profile).
 use Rattle.std.specs.Prelude.{◌≡◌, ℕ, ◌-◌, ◌/◌, ◌%◌, ◌<◌, All, List, None}
 use Rattle.hc_records.specs.declared.limits.TheConstants.{MOST_DATAGRAMS}
 use Rattle.hc_records.specs.Edits.{over_limit_task}
@@ -27,7 +28,7 @@ written_at address = (address % 65536, address / 65536)
 abbrev pub HasItsAddress : Judged → Type 0
 HasItsAddress datagram = datagram.part.address ≡ datagram.head.address
 
--- so has each datagram that an arrival answers
+-- each datagram that an arrival answers has its head's address
 abbrev pub AddressesAreThoseSent : Type 0
 AddressesAreThoseSent = (history : History) (arrival : Arrival) → All HasItsAddress (judged_by history arrival)
 
@@ -42,11 +43,13 @@ pub record IsNamedByAddress (line : List Member) (datagram : Judged) : Type 0 wh
 abbrev pub HasFewDatagrams : List Member → Type 0
 HasFewDatagrams line = (named : Named) → IsInLine line named → named.1 < MOST_DATAGRAMS
 
--- so it is in the line of any project's state in which no task has more than 16 datagrams: `Plan` gives both conditions of its state
+-- `HasFewDatagrams` holds for the line of any project's state in which no task has more than 16 datagrams: `Plan` gives both
+-- conditions of its state
 abbrev pub ProjectsHaveFewDatagrams : Type 0
 ProjectsHaveFewDatagrams = (state : State) → lowest_fault (groups_of state.groups) ≡ None → over_limit_task (line state) ≡ None → HasFewDatagrams (line state)
 
--- where an arrival answers frames of tasks each of its datagrams names a task's datagram of the present line: the one that was sent in its place
+-- if an arrival answers frames of tasks, each of its datagrams names a task's datagram of the present line: the one that was
+-- sent in its place
 abbrev pub AnsweredAreNamed : Type 0
 AnsweredAreNamed =
     (history : History) (arrival : Arrival) (outcomes : List Outcome) → IsReachable history → HasFewDatagrams (line_of history)

@@ -6,7 +6,8 @@ use Rattle.hc_events.specs.declared.answer.Arrived.{Arrived}
 use Rattle.hc_events.specs.declared.answer.Arrived.TheVariants as arrived
 use Rattle.hc_events.specs.declared.answer.Outcome.{Outcome}
 
--- the answer that the two are: the list counts where frames of tasks or of several register writes are answered
+-- the answer of a kind of arrival with a list of outcomes: the list counts if frames of tasks or of several register writes are
+-- answered
 abbrev pub arrived_answer : Arrived → List Outcome → Answer
 arrived_answer arrived.Answered outcomes = answer.Answered outcomes
 arrived_answer arrived.WriteDone outcomes = answer.WriteDone

@@ -10,7 +10,7 @@ use Rattle.hc_records.specs.Image.{VariablePlace, datagram_length, datagram_offs
 use Rattle.hc_events.specs.Entries.{History, Opened, Edited, Posted}
 use Rattle.hc_events.specs.Points.{line_of}
 
--- where a bit of a variable is in its task's image
+-- the position of a bit of a variable in its task's image
 abbrev pub image_bit : List Member → VariablePlace → ℕ → ℕ
 image_bit line place k = 8 * datagram_offset (task_places place.task line) place.datagram + place.bit + k
 
@@ -18,13 +18,14 @@ image_bit line place k = 8 * datagram_offset (task_places place.task line) place
 abbrev pub is_posted : ℕ → VariablePlace → Bool
 is_posted task place = place.task == task
 
--- bit `k` of a variable after a post: its bit in the posted bytes where it has a place and this is in the posted task, else `before`
+-- bit `k` of a variable after a post: its bit in the posted bytes if it has a place and this is in the posted task, otherwise
+-- `before`
 abbrev pub posted_bit : List Member → ℕ → List ℕ → ℕ → Option VariablePlace → ℕ → ℕ
 posted_bit line task bytes k place before =
     option_map_or (λ found. if is_posted task found then bit_of bytes (image_bit line found k) else before) place before
 
--- bit k of a placed output variable: its bit in the last accepted post of the task that it then had, since it got its place; 0 where there is none.
--- A variable has no place while its slave isn't in the line
+-- bit k of a placed output variable: its bit in the last accepted post of the task that it then had, since it got its place; 0
+-- if there is none. A variable has no place while its slave is not in the line
 abbrev pub value_bit : History → ℕ → ℕ → ℕ
 value_bit [] variable k = 0
 value_bit (Opened groups ∷ history) variable k = 0

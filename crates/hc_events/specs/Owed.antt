@@ -45,15 +45,17 @@ was_confirmed (Came arrival ∷ history) serial item =
     ((arrival.serial == serial) && list_any (confirms item) (judged_by history arrival)) || was_confirmed history serial item
 was_confirmed (entry ∷ history) serial item = was_confirmed history serial item
 
--- the known bytes of a block of a slave in the line: those of its last write, where the block's datagram has had a good answer; else there are none
+-- the known bytes of a block of a slave in the line: those of its last write if the block's datagram has had a good answer;
+-- otherwise none
 abbrev pub if_confirmed : History → Item → ℕ × List ℕ → Option (List ℕ)
 if_confirmed history item write = if was_confirmed history write.0 item then Some write.1 else None
 
--- the bytes that the slave with a station address is known to have in its block with a number: those of its last write since it came into the line or was last forgotten, where that had a good answer
+-- the bytes that the slave with a station address is known to have in its block with a number: those of its last write since it
+-- came into the line or was last forgotten, if that had a good answer
 abbrev pub known_bytes : History → ℕ → ℕ → Option (List ℕ)
 known_bytes history station number = option_and_then (if_confirmed history (Block station number)) (last_write history station number)
 
--- a block is owed where its known bytes aren't those that the line configures, or there are none
+-- a block is owed if its known bytes are not those that the line configures, or if there are none
 abbrev pub is_owed : History → LineBlock → Bool
 is_owed history block = not (option_map_or (bytes_eq block.block.bytes) (known_bytes history block.station block.number) false)
 

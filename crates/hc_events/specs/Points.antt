@@ -1,4 +1,4 @@
--- What follows from a record for the point after it: the line, the epoch and the next serial.
+-- The line, the epoch and the next serial at the point after a record.
 use Rattle.std.specs.Prelude.{ℕ, ◌+◌, List, [], ◌∷◌}
 use Rattle.hc_records.specs.declared.records.Group.{Group}
 use Rattle.hc_records.specs.Line.{Member, State, line, opened}

@@ -61,7 +61,7 @@ waited_for history task = filter (concerns history task) (owed_blocks history)
 
 -- outside the line
 
--- the slaves of a declared group that isn't in the line
+-- the slaves of a declared group that is not in the line
 abbrev pub absent_slaves : Declared → List Slave
 absent_slaves declared = if declared.present then [] else declared.group.slaves
 
@@ -87,7 +87,7 @@ waited_for_outside history task = filter (concerns_outside history task) (regist
 
 -- tasks
 
--- a task is ready where it waits for nothing
+-- a task is ready if it waits for nothing
 abbrev pub is_ready : History → ℕ → Bool
 is_ready history task = (length (waited_for history task) == 0) && (length (waited_for_outside history task) == 0)
 
@@ -95,7 +95,7 @@ is_ready history task = (length (waited_for history task) == 0) && (length (wait
 abbrev pub ready_tasks : History → List ℕ
 ready_tasks history = filter (is_ready history) tasks
 
--- tasks as a number: bit t is 1 where task t passes the test
+-- tasks as a number: bit t is 1 if task t passes the test
 abbrev pub mask_of : (ℕ → Bool) → ℕ
 mask_of test = number_of (map (λ (task : ℕ). if test task then 1 else 0) tasks)
 
@@ -129,7 +129,8 @@ held_by history task n = slice_get (holders history task) n
 
 -- edits
 
--- the record where a slave was cleared: where it is in the line its registers are forgotten too, since zeros aren't what the line configures
+-- the record after a slave was cleared: if it is in the line its registers are forgotten too, since zeros are not what the line
+-- configures
 abbrev pub with_cleared : History → ℕ → History
 with_cleared history station = if is_in_line history station then Cleared station ∷ Forgot station ∷ history else Cleared station ∷ history
 

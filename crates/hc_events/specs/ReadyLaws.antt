@@ -1,4 +1,4 @@
--- What holds of ready tasks, and of what registers may hold. Each law is the contract of a function of `laws`.
+-- Laws of ready tasks, and of the bytes that registers may hold. Each law is the contract of a function of `laws`.
 use Rattle.std.specs.Prelude.{◌≡◌, ◌↔◌, ℕ, ◌<◌, ◌==◌, not, Bool, false, true, if◌then◌else◌, All, Contains, IsNone, List, [], ◌∷◌, ◌++◌, map, None, Some}
 use Rattle.std.specs.List.{list_all, list_any}
 use Rattle.std.specs.Int.{bit_at}
@@ -20,7 +20,7 @@ use Rattle.hc_events.specs.Steps.{SendsReady, SendsTasks, answer_to, edit_refuse
 use Rattle.hc_events.specs.Accepted.{IsReachable}
 use Rattle.hc_events.specs.SendingLaws.{IsFound}
 
--- a task is ready where nothing is owed and no register outside the line concerns it
+-- a task is ready if nothing is owed and no register outside the line concerns it
 abbrev pub ReadyWhereNothingIsOwed : Type 0
 ReadyWhereNothingIsOwed = (history : History) (task : ℕ) → owed_blocks history ≡ [] → waited_for_outside history task ≡ [] → is_ready history task ≡ true
 
@@ -29,7 +29,7 @@ pub record AreSentAlike (history : History) (tasks : List ℕ) : Type 0 where
   pub answers : answer_to history (SendsReady tasks) ≡ answer_to history (SendsTasks tasks)
   pub entries : entries_after history (SendsReady tasks) ≡ entries_after history (SendsTasks tasks)
 
--- so it is where nothing is owed and no register outside the line concerns one of the tasks
+-- `AreSentAlike` holds if nothing is owed and no register outside the line concerns one of the tasks
 abbrev pub BothEventsSendAlike : Type 0
 BothEventsSendAlike =
     (history : History) (tasks : List ℕ) → owed_blocks history ≡ [] → All (λ (task : ℕ). waited_for_outside history task ≡ []) tasks
@@ -40,7 +40,7 @@ pub record AreReadySent (history : History) (tasks : List ℕ) : Type 0 where
   pub answer : answer_to history (SendsReady tasks) ≡ answer.Sent (map (sent_text history) (proposal history tasks))
   pub found : All (IsFound history (entries_after history (SendsReady tasks))) (proposal history tasks)
 
--- so it is with every sending of ready tasks that has no fault
+-- `AreReadySent` holds for every sending of ready tasks that has no fault
 abbrev pub ReadyFramesAreFound : Type 0
 ReadyFramesAreFound = (history : History) (tasks : List ℕ) → IsNone (lowest (ready_faults history tasks)) → AreReadySent history tasks
 
@@ -116,16 +116,16 @@ pub record IsHeldStill (before after : History) (station : ℕ) : Type 0 where
   pub contents : (number : ℕ) → (may_hold after station number).contents ≡ (may_hold before station number).contents
   pub unplugged : is_unplugged after station ≡ is_unplugged before station
 
--- so it is as long as the slave stays outside the line, and is neither cleared nor unplugged
+-- `IsHeldStill` holds as long as the slave stays outside the line, and is neither cleared nor unplugged
 abbrev pub SlavesOutsideHoldStill : Type 0
 SlavesOutsideHoldStill =
     (since : List HistoryEntry) (history : History) (station : ℕ) → IsReachable (since ++ history) → StaysPlugged station history since
     → IsHeldStill history (since ++ history) station
 
--- a task is ready exactly where no slave holds it up
+-- a task is ready exactly if no slave holds it up
 abbrev pub ReadyTasksHaveNoHolder : Type 0
 ReadyTasksHaveNoHolder = (history : History) (task : ℕ) → (is_ready history task ≡ true) ↔ (holders history task ≡ [])
 
--- bit t of tasks as a number is 1 where task t passes the test, else 0
+-- bit t of tasks as a number is 1 if task t passes the test, otherwise 0
 abbrev pub MasksSayTheirTasks : Type 0
 MasksSayTheirTasks = (test : ℕ → Bool) (task : ℕ) → task < TASKS → bit_at (mask_of test) task ≡ (if test task then 1 else 0)

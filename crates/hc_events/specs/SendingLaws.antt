@@ -1,4 +1,4 @@
--- What holds of sendings: which of them has a serial, which frames an accepted event sends, and what these carry.
+-- Laws of sendings: the sending with a serial, the frames that an accepted event sends, and their content.
 use Rattle.std.specs.Prelude.{◌≡◌, ◌≢◌, ◌↔◌, ℕ, ◌+◌, ◌%◌, ◌<◌, Bool, true, false, All, IsNone, IsSome, List, [], ◌∷◌, ◌++◌, length, map, slice_index, Some}
 use Rattle.std.specs.List.{flat_map, list_all, list_any}
 use Rattle.hc_records.specs.Lists.{lowest}
@@ -27,7 +27,7 @@ abbrev pub is_opening : HistoryEntry → Bool
 is_opening (Opened groups) = true
 is_opening entry = false
 
--- what an entry that is sent after a record says of its datagrams
+-- the heads of the datagrams of an entry that is sent after a record
 abbrev pub heads_of : History → HistoryEntry → List Head
 heads_of history (Sent frame) = data_heads (line_of history) frame
 heads_of history (Wrote blocks) = write_heads blocks
@@ -48,7 +48,7 @@ pub record HasItsSending (history : History) (serial : ℕ) : Type 0 where
   pub below : (serial < next_serial history) ↔ IsSome (sending_of history serial)
   pub which : (sending : Sending) → (sending_of history serial ≡ Some sending) ↔ IsSendingAt history serial sending
 
--- so it is with every serial, in any record
+-- `HasItsSending` holds for every serial, in any record
 abbrev pub SendingsHaveSerials : Type 0
 SendingsHaveSerials = (history : History) (serial : ℕ) → HasItsSending history serial
 
@@ -80,11 +80,11 @@ pub record AreSent (history : History) (tasks : List ℕ) : Type 0 where
   pub answer : answer_to history (SendsTasks tasks) ≡ answer.Sent (map (sent_text history) (proposal history tasks))
   pub found : All (IsFound history (entries_after history (SendsTasks tasks))) (proposal history tasks)
 
--- so it is with every sending of tasks that has no fault
+-- `AreSent` holds for every sending of tasks that has no fault
 abbrev pub SentFramesAreFound : Type 0
 SentFramesAreFound = (history : History) (tasks : List ℕ) → IsNone (lowest (task_faults history tasks)) → AreSent history tasks
 
--- and an accepted write writes the first owed block, with the serial that was next
+-- an accepted write writes the first owed block, with the serial that was next
 pub record BlockIsWritten (history : History) : Type 0 where
   pub block : LineBlock
   pub rest : List LineBlock
@@ -92,7 +92,7 @@ pub record BlockIsWritten (history : History) : Type 0 where
   pub answer : answer_to history SendsWrite ≡ answer.WriteSent (write_text (next_serial history) block)
   pub found : sending_of (entries_after history SendsWrite) (next_serial history) ≡ Some (sending_of_heads (write_head block ∷ []))
 
--- so it is with every write that has no fault
+-- `BlockIsWritten` holds for every write that has no fault
 abbrev pub SentWritesAreFound : Type 0
 SentWritesAreFound = (history : History) → IsNone (lowest (write_faults history (owed_blocks history))) → BlockIsWritten history
 
@@ -102,7 +102,7 @@ pub record BlocksAreWritten (history : History) : Type 0 where
   pub answer : answer_to history SendsWrites ≡ writes_answer (next_serial history) (frame_blocks (owed_blocks history))
   pub found : sending_of (entries_after history SendsWrites) (next_serial history) ≡ Some (sending_of_heads (write_heads (frame_blocks (owed_blocks history))))
 
--- so it is with every such frame that has no fault
+-- `BlocksAreWritten` holds for every frame of the first owed blocks that has no fault
 abbrev pub SentWriteFramesAreFound : Type 0
 SentWriteFramesAreFound = (history : History) → IsNone (lowest (write_faults history (owed_blocks history))) → BlocksAreWritten history
 
@@ -112,7 +112,7 @@ ProposalsCarryTheTasks =
     (history : History) (tasks : List ℕ)
     → flat_map (λ (frame : Frame). frame.datagrams) (proposal history tasks) ≡ flat_map (task_datagrams (line_of history)) tasks
 
--- and each frame has as many bytes as its text
+-- each frame of a proposal has as many bytes as its text
 abbrev pub FramesHaveTheirSizes : Type 0
 FramesHaveTheirSizes =
     (history : History) (tasks : List ℕ) → All (λ (frame : Frame). length (sent_text history frame) ≡ sent_frame_size frame) (proposal history tasks)
@@ -129,6 +129,6 @@ pub record ComesAgain (serial : ℕ) (d : Datagram) (ds : List Datagram) : Type 
       (later : ℕ) (e : Datagram) (es : List Datagram) → serial < later → later < serial + 256
       → index_in (frame_text later (e ∷ es)) ≢ index_in (frame_text serial (d ∷ ds))
 
--- so it is with the text of any frame, whatever its datagrams are
+-- `ComesAgain` holds for the text of any frame, whatever its datagrams are
 abbrev pub IndexesComeAgain : Type 0
 IndexesComeAgain = (serial : ℕ) (d : Datagram) (ds : List Datagram) → ComesAgain serial d ds

@@ -43,11 +43,11 @@ pub record FrameIsFilled (bytes : ℕ) (datagrams : List Named) : Type 0 where
 abbrev pub task_datagrams : List Member → ℕ → List Named
 task_datagrams line task = map (λ d. (task, d)) (range_with_len 0 (datagram_count (task_places task line)))
 
--- the number of data bytes that a task's datagram has in the line; 0 where the line has no such datagram
+-- the number of data bytes that a task's datagram has in the line; 0 if the line has no such datagram
 abbrev pub line_data_length : List Member → Named → ℕ
 line_data_length line named = datagram_length (task_places named.0 line) named.1
 
--- datagrams in frames: each joins the frame before it where there is room, else it begins a frame
+-- datagrams in frames: each joins the frame before it if there is room, otherwise it begins a frame
 abbrev pub framed_after : List Member → Frame → List Named → List Frame
 framed_after line sending [] = sending ∷ []
 framed_after line sending (datagram ∷ datagrams) =
@@ -55,11 +55,11 @@ framed_after line sending (datagram ∷ datagrams) =
     then framed_after line (frame_joined sending datagram (line_data_length line datagram)) datagrams
     else sending ∷ framed_after line (frame_of_one (sending.serial + 1) datagram (line_data_length line datagram)) datagrams
 
--- the datagrams in frames, in order, the first frame with this serial; no frame where there is no datagram
+-- the datagrams in frames, in order, the first frame with this serial; no frame if there is no datagram
 abbrev pub framed : List Member → ℕ → List Named → List Frame
 framed line serial [] = []
 framed line serial (datagram ∷ datagrams) = framed_after line (frame_of_one serial datagram (line_data_length line datagram)) datagrams
 
--- the frames where the datagrams of tasks are sent, in the tasks' order, with serials from this one on
+-- the frames in which the datagrams of tasks are sent, in the tasks' order, with serials from this one on
 abbrev pub sendings_of : List Member → ℕ → List ℕ → List Frame
 sendings_of line serial tasks = framed line serial (flat_map (task_datagrams line) tasks)

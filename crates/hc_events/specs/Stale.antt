@@ -53,7 +53,7 @@ StaleChangesNothing =
 abbrev pub StaleArrivalsCanGo : Type 0
 StaleArrivalsCanGo = (history : History) (steps : List Step) → SameAfter history (without_stale history) steps
 
--- an arrival is stale to a record exactly where it is stale to the record without the stale ones
+-- an arrival is stale to a record exactly if it is stale to the record without the stale ones
 abbrev pub StaleIsJudgedWithout : Type 0
 StaleIsJudgedWithout = (history : History) (arrival : Arrival) → is_stale_to (without_stale history) arrival ≡ is_stale_to history arrival
 
@@ -68,6 +68,6 @@ StaleStaysStale =
     (history : History) (steps : List Step) (arrival : Arrival) → arrival.serial < next_serial history → is_stale_to history arrival ≡ true
     → is_stale_to (entries_after_all history steps) arrival ≡ true
 
--- a frame that can't be read isn't even recorded
+-- a frame that cannot be read is not recorded
 abbrev pub UnreadableChangesNothing : Type 0
 UnreadableChangesNothing = (history : History) (bytes : List ℕ) → IsErr (arrival_in bytes) → entries_after history (Arrives bytes) ≡ history

@@ -14,7 +14,7 @@ use Rattle.hc_events.specs.Points.{epoch_of, state_of}
 use Rattle.hc_events.specs.Images.{NewAnswer, is_for, new_answer_by}
 use Rattle.hc_events.specs.Ready.{serves_task}
 
--- what an edit changes
+-- the tasks that an edit changes
 
 -- two lists have equal elements, in order, by a test of two elements
 abbrev pub same_lists : {X : Type 0} → (X → X → Bool) → List X → List X → Bool
@@ -59,14 +59,14 @@ changes_task old new task =
 abbrev pub edit_changes : History → Edit → ℕ → Bool
 edit_changes history edit task = changes_task (state_of history) (state_of (Edited edit ∷ history)) task
 
--- the epoch of the last accepted edit that changed the task; 0 where none did
+-- the epoch of the last accepted edit that changed the task; 0 if none did
 abbrev pub task_epoch : History → ℕ → ℕ
 task_epoch [] task = 0
 task_epoch (Opened groups ∷ history) task = 0
 task_epoch (Edited edit ∷ history) task = if edit_changes history edit task then epoch_of history + 1 else task_epoch history task
 task_epoch (entry ∷ history) task = task_epoch history task
 
--- what a task reads over edits that don't change it
+-- the data that a task reads over edits that do not change it
 
 -- the data of a good answer, with the serial of the sending that it answered and the epoch in which it came
 pub record SteadyData : Type 0 where
@@ -74,7 +74,8 @@ pub record SteadyData : Type 0 where
   pub serial : ℕ
   pub epoch : ℕ
 
--- the data of a datagram once a good answer came in an epoch to the sending with a serial: that answer's where it is of this datagram, else those of before, if any
+-- the data of a datagram once a good answer came in an epoch to the sending with a serial: those of the answer if it is of this
+-- datagram, otherwise those of before, if any
 abbrev pub steadied : ℕ → ℕ → ℕ → ℕ → Option SteadyData → NewAnswer → Option SteadyData
 steadied serial epoch task d before good = if is_for task d good then Some (record { bytes = good.bytes; serial = serial; epoch = epoch }) else before
 

@@ -1,4 +1,4 @@
--- What holds of tasks over edits that don't change them. Each law is the contract of a function of `laws`.
+-- Laws of tasks over edits that do not change them. Each law is the contract of a function of `laws`.
 use Rattle.std.specs.Prelude.{◌≡◌, ◌↔◌, ℕ, ◌<◌, ◌≤◌, ◌⊎◌, false, true, List, ◌∷◌, filter, length, map, Some, None}
 use Rattle.std.specs.List.{enumerate_from, flat_map}
 use Rattle.hc_records.specs.declared.edit.Edit.{Edit}
@@ -33,7 +33,7 @@ pub record MovesTaskEpoch (history : History) (edit : Edit) (task : ℕ) : Type 
   pub left : edit_changes history edit task ≡ false → task_epoch (Edited edit ∷ history) task ≡ task_epoch history task
   pub same_data : (d : ℕ) → edit_changes history edit task ≡ false → steady_data (Edited edit ∷ history) task d ≡ steady_data history task d
 
--- so does each edit
+-- `MovesTaskEpoch` holds for each edit and each task
 abbrev pub EditsMoveTaskEpochs : Type 0
 EditsMoveTaskEpochs = (history : History) (edit : Edit) (task : ℕ) → MovesTaskEpoch history edit task
 
@@ -48,11 +48,11 @@ pub record AreSteady (history : History) (task d : ℕ) (bytes : List ℕ) : Typ
   pub date : data_serial history task d ≡ Some serial
   pub steady : steady_data history task d ≡ Some (record { bytes = bytes; serial = serial; epoch = epoch_of history })
 
--- so are any that it reads
+-- `AreSteady` holds for all data that a task reads
 abbrev pub SlotsAreSteady : Type 0
 SlotsAreSteady = (history : History) (task d : ℕ) (bytes : List ℕ) → slot_of history task d ≡ Some bytes → AreSteady history task d bytes
 
--- and steady data whose answer came in the present epoch are those that the task reads
+-- steady data whose answer came in the present epoch are those that the task reads
 abbrev pub SteadyDataOfTheEpochAreSlots : Type 0
 SteadyDataOfTheEpochAreSlots =
     (history : History) (task d : ℕ) (found : SteadyData) → steady_data history task d ≡ Some found → found.epoch ≡ epoch_of history
@@ -64,11 +64,12 @@ pub record FitsSteadily (history : History) (task d : ℕ) (found : SteadyData) 
   pub most : found.epoch ≤ epoch_of history
   pub size : length found.bytes ≡ line_data_length (line_of history) (task, d)
 
--- so do all steady data
+-- `FitsSteadily` holds for all steady data
 abbrev pub SteadyDataFit : Type 0
 SteadyDataFit = (history : History) (task d : ℕ) (found : SteadyData) → steady_data history task d ≡ Some found → FitsSteadily history task d found
 
--- what a steady post is accepted for: there is the task, the epoch is from the last edit that changed the task to the present one, and the bytes are as many as the task has outputs
+-- the condition of a steady post: there is the task, the epoch is from the last edit that changed the task to the present one,
+-- and the bytes are as many as the task has outputs
 pub record IsSteadyPost (history : History) (task epoch : ℕ) (bytes : List ℕ) : Type 0 where
   pub there : task < TASKS
   pub from : task_epoch history task ≤ epoch
@@ -80,7 +81,8 @@ abbrev pub SteadyPostsAreAccepted : Type 0
 SteadyPostsAreAccepted =
     (history : History) (task epoch : ℕ) (bytes : List ℕ) → (answer_to history (PostsSteady task epoch bytes) ≡ answer.Posted) ↔ IsSteadyPost history task epoch bytes
 
--- a steady post of a task is refused with 15 just where its epoch is below the one of the last edit that changed the task, or above the present one
+-- a steady post of a task is refused with `StalePost` exactly if its epoch is below the one of the last edit that changed the
+-- task, or above the present one
 abbrev pub SteadyPostsAreStale : Type 0
 SteadyPostsAreStale =
     (history : History) (task epoch : ℕ) (bytes : List ℕ) → task < TASKS
@@ -117,7 +119,7 @@ pub record IsUndisturbed (history : History) (edit : Edit) (task : ℕ) : Type 0
       → answer_to (Edited edit ∷ history) (PostsSteady task epoch bytes) ≡ answer.Posted
   pub ready : is_ready history task ≡ true → is_ready (edited_and_cleared history edit) task ≡ true
 
--- so does each accepted edit that doesn't change the task, in a project before the edit and after it
+-- each accepted edit that does not change a task leaves it undisturbed, in a project before the edit and after it
 abbrev pub UnchangedTasksAreUndisturbed : Type 0
 UnchangedTasksAreUndisturbed =
     (history : History) (edit : Edit) (task : ℕ) → IsReachable history → task < TASKS
@@ -134,7 +136,8 @@ member_areas task member =
 abbrev pub areas_in_task : ℕ → List Member → List (ℕ × (ℕ × (ℕ × Area)))
 areas_in_task task line = flat_map (member_areas task) line
 
--- in a project an edit that leaves the areas of a task, each in the same slave, doesn't change the task: so it is with a group, an area or a variable of other tasks
+-- in a project an edit that leaves the areas of a task, each in the same slave, does not change the task. Such an edit concerns
+-- a group, an area or a variable of other tasks
 abbrev pub EditsOfOthersChangeNoTask : Type 0
 EditsOfOthersChangeNoTask =
     (history : History) (edit : Edit) (task : ℕ) → task < TASKS

@@ -1,4 +1,5 @@
--- What the core answers to each event, and what it accepts of it. `Calls` says which events may be answered with `Memory` instead.
+-- The answer of the core to each event, and the entries that it accepts. `Calls` has the events that may be answered with
+-- `Memory` instead.
 use Rattle.std.specs.Prelude.{ℕ, ◌+◌, ◌==◌, ◌||◌, not, nat_lt, is_none, Bool, if◌then◌else◌, List, [], ◌∷◌, ◌++◌, length, map, Option, Some, None, option_map, Result, Ok, Err}
 use Rattle.std.specs.List.{list_any}
 use Rattle.hc_records.specs.declared.limits.TheConstants.{TASKS}
@@ -35,7 +36,7 @@ use Rattle.hc_events.specs.Steady.{task_epoch}
 use Rattle.hc_events.specs.UnderWay.{further_blocks}
 use Rattle.hc_events.specs.WriteFrames.{frame_blocks, writes_text}
 
--- an event, without where it lies in memory
+-- an event, without its place in memory
 pub data Step : Type 0 where
   Edits : Edit → Step
   Posts : ℕ → ℕ → List ℕ → Step
@@ -56,14 +57,14 @@ abbrev pub unless : Option CoreFault → Answer → Answer
 unless None returned = returned
 unless (Some fault) returned = answer.Refused fault
 
--- the record `history` where there is a fault, else `next`
+-- the record `history` if there is a fault, otherwise `next`
 abbrev pub unless_fault : Option CoreFault → History → History → History
 unless_fault None history next = next
 unless_fault (Some fault) history next = history
 
 -- an edit
 
--- the lowest fault of the edit in the record's state, as the core's fault; none where the state accepts it
+-- the lowest fault of the edit in the record's state, as the core's fault; none if the state accepts it
 abbrev pub edit_refused : History → Edit → Option CoreFault
 edit_refused history edit = option_map edit_refusal (lowest (edit_faults (state_of history) edit))
 
@@ -77,7 +78,8 @@ edit_answer old new = answer.Edited new.epoch (recut (line old) (line new)) (mov
 abbrev pub is_no_task : ℕ → Bool
 is_no_task task = not (nat_lt task TASKS)
 
--- what refuses a post, in order: 8 no such task, 15 another epoch than the present one, 16 not the task's number of output bytes
+-- the faults of a post, in order: `NoSuchTask`; `StalePost` for another epoch than the present one; `PostLength` if the bytes
+-- are not as many as the task's output bytes
 abbrev pub post_faults : History → ℕ → ℕ → List ℕ → List (Bool × CoreFault)
 post_faults history task epoch bytes =
     (is_no_task task, NoSuchTask)
@@ -91,7 +93,8 @@ post_faults history task epoch bytes =
 abbrev pub is_stale_epoch : History → ℕ → ℕ → Bool
 is_stale_epoch history task epoch = nat_lt epoch (task_epoch history task) || nat_lt (epoch_of history) epoch
 
--- what refuses a steady post, in order: 8 no such task, 15 an epoch before the last edit that changed the task or after the present one, 16 not the task's number of output bytes
+-- the faults of a steady post, in order: `NoSuchTask`; `StalePost` for an epoch before the last edit that changed the task or
+-- after the present one; `PostLength` if the bytes are not as many as the task's output bytes
 abbrev pub post_steady_faults : History → ℕ → ℕ → List ℕ → List (Bool × CoreFault)
 post_steady_faults history task epoch bytes =
     (is_no_task task, NoSuchTask)
@@ -99,7 +102,7 @@ post_steady_faults history task epoch bytes =
     ∷ (not (length bytes == output_length (task_places task (line_of history))), PostLength)
     ∷ []
 
--- a sending of tasks: one frame or more, or none where the tasks have no datagram
+-- a sending of tasks: one frame or more, or none if the tasks have no datagram
 
 -- from a serial on so many are left: sendings have those below the one of alias reads and station writes
 abbrev pub serials_left : ℕ → ℕ → Bool
@@ -109,11 +112,13 @@ serials_left serial sendings = not (nat_lt SETUP_SERIAL (serial + sendings))
 abbrev pub has_serials : History → ℕ → Bool
 has_serials history sendings = serials_left (next_serial history) sendings
 
--- the frames where the tasks would be sent next, in the given order, from the next serial on, whether or not that is refused; none where they have no datagram
+-- the frames in which the tasks would be sent next, in the given order, from the next serial on, even if the sending is
+-- refused; none if they have no datagram
 abbrev pub proposal : History → List ℕ → List Frame
 proposal history tasks = sendings_of (line_of history) (next_serial history) tasks
 
--- what refuses sending the tasks, in order: 8 one is no task, 17 blocks are owed, with their number, 19 fewer serials are left than frames
+-- the faults of sending tasks, in order: `NoSuchTask` if one is no task; `Unprogrammed` if blocks are owed, with their number;
+-- `SerialsSpent` if fewer serials are left than frames
 abbrev pub task_faults : History → List ℕ → List (Bool × CoreFault)
 task_faults history tasks =
     (list_any is_no_task tasks, NoSuchTask)
@@ -127,7 +132,8 @@ task_faults history tasks =
 abbrev pub wait_fault : History → ℕ → Bool × CoreFault
 wait_fault history task = (not (is_ready history task), Waits task (length (waited_for history task)) (length (waited_for_outside history task)))
 
--- what refuses sending ready tasks, in order: 8 one is no task, 36 the first of them that waits, 19 fewer serials are left than frames
+-- the faults of sending ready tasks, in order: `NoSuchTask` if one is no task; `Waits` of the first of them that waits;
+-- `SerialsSpent` if fewer serials are left than frames
 abbrev pub ready_faults : History → List ℕ → List (Bool × CoreFault)
 ready_faults history tasks =
     (list_any is_no_task tasks, NoSuchTask)
@@ -150,7 +156,8 @@ with_sent history (sending ∷ sendings) = with_sent (Sent sending.datagrams ∷
 
 -- a register write: the first owed block's
 
--- what refuses a register write where these blocks are owed, in order: 18 there are none, 19 no serial is left
+-- the faults of a register write if these blocks are owed, in order: `NothingOwed` if there are none; `SerialsSpent` if no
+-- serial is left
 abbrev pub write_faults : History → List LineBlock → List (Bool × CoreFault)
 write_faults history blocks = (length blocks == 0, NothingOwed) ∷ (not (has_serials history 1), SerialsSpent) ∷ []
 
@@ -158,32 +165,36 @@ write_faults history blocks = (length blocks == 0, NothingOwed) ∷ (not (has_se
 abbrev pub write_text : ℕ → LineBlock → List ℕ
 write_text serial block = frame_text serial (block_write block.station block.block.register block.block.bytes ∷ [])
 
--- the answer to a register write where these blocks are owed: the frame of the first one, with this serial; refusal 18 where there are none
+-- the answer to a register write if these blocks are owed: the frame of the first one, with this serial; the refusal
+-- `NothingOwed` if there are none
 abbrev pub sent_write_answer : ℕ → List LineBlock → Answer
 sent_write_answer serial [] = answer.Refused NothingOwed
 sent_write_answer serial (block ∷ blocks) = answer.WriteSent (write_text serial block)
 
--- the record with the write of the first of these blocks as its newest entry; as it was where there are none
+-- the record with the write of the first of these blocks as its newest entry; unchanged if there are none
 abbrev pub with_write : History → List LineBlock → History
 with_write history [] = history
 with_write history (block ∷ blocks) = Wrote (block ∷ []) ∷ history
 
 -- a frame of register writes: the first owed blocks, as many as it holds (`frame_blocks`); refused as a register write is
 
--- the answer to the writes of these blocks in one frame with this serial: one block is answered as its write alone is; refusal 18 where there are none
+-- the answer to the writes of these blocks in one frame with this serial: one block is answered as its write alone is; the
+-- refusal `NothingOwed` if there are none
 abbrev pub writes_answer : ℕ → List LineBlock → Answer
 writes_answer serial [] = answer.Refused NothingOwed
 writes_answer serial (block ∷ []) = answer.WriteSent (write_text serial block)
 writes_answer serial (block ∷ next ∷ blocks) = answer.WritesSent (writes_text serial (block ∷ next ∷ blocks))
 
--- the record with the frame that writes these blocks as its newest entry; as it was where there are none
+-- the record with the frame that writes these blocks as its newest entry; unchanged if there are none
 abbrev pub with_writes : History → List LineBlock → History
 with_writes history [] = history
 with_writes history (block ∷ blocks) = Wrote (block ∷ blocks) ∷ history
 
--- a further frame of register writes: the first owed blocks that aren't under way, as many as it holds; it is answered as a frame of the first owed blocks is
+-- a further frame of register writes: the first owed blocks that are not under way, as many as it holds; it is answered as a
+-- frame of the first owed blocks is
 
--- what refuses it, in order: 18 nothing is owed, 37 each owed block is under way, 19 no serial is left
+-- the faults of a further frame, in order: `NothingOwed` if nothing is owed; `UnderWay` if each owed block is under way;
+-- `SerialsSpent` if no serial is left
 abbrev pub further_faults : History → List (Bool × CoreFault)
 further_faults history =
     (length (owed_blocks history) == 0, NothingOwed)
@@ -191,71 +202,80 @@ further_faults history =
     ∷ (not (has_serials history 1), SerialsSpent)
     ∷ []
 
--- an arrival: what it is for each datagram of the tasks, or for each register write; stale where it answers no sending or each datagram is stale
+-- an arrival: the outcome of each datagram of the tasks, or of each register write; stale if it answers no sending or each
+-- datagram is stale
 
--- what is said of a good datagram: the inputs of a task's datagram, or that a register block's write is done
+-- the outcome of a good datagram: the inputs of a task's datagram, or that a register block's write is done
 abbrev pub inputs_of : Item → Outcome
 inputs_of (DatagramItem task d) = outcome.Inputs task d
 inputs_of (Block station number) = outcome.Done
 
--- what is said of a wrong datagram: of a task's the expected counter and the one that came, of a register block that its write missed
+-- the outcome of a wrong datagram: the expected counter of a task's datagram and the one that came, or that a register block's
+-- write missed
 abbrev pub wrong_of : Item → ℕ → ℕ → Outcome
 wrong_of (DatagramItem task d) expected got = outcome.WrongCount expected got
 wrong_of (Block station number) expected got = outcome.Missed
 
--- what is said of a datagram by its verdict: `inputs_of` its item where good, `wrong_of` its item with the head's expected counter and the one that came where wrong, `Stale` where stale
+-- the outcome of a datagram by its verdict: `inputs_of` its item if it is good, `wrong_of` its item with the expected counter
+-- and the one that came if it is wrong, `Stale` if it is stale
 abbrev pub outcome_of : Head → Part → Verdict → Outcome
 outcome_of head part Good = inputs_of head.item
 outcome_of head part Wrong = wrong_of head.item head.expected part.counter
 outcome_of head part Stale = outcome.Stale
 
--- what is said of a judged datagram: where it is good `Inputs` of a task's and `Done` of a register block; where it is wrong `WrongCount` with the expected counter and the one that came, or `Missed`; `Stale` where it is stale
+-- the outcome of a judged datagram: if it is good, `Inputs` of a task's and `Done` of a register block; if it is wrong,
+-- `WrongCount` with the expected counter and the one that came, or `Missed`; `Stale` if it is stale
 abbrev pub outcome_for : Judged → Outcome
 outcome_for datagram = outcome_of datagram.head datagram.part datagram.verdict
 
--- the answer to an arrival that answers a write of one register block: `WriteDone` where it is good, `WriteMissed` where it is wrong, `Stale` where it is stale
+-- the answer to an arrival that answers a write of one register block: `WriteDone` if it is good, `WriteMissed` if it is wrong,
+-- `Stale` if it is stale
 abbrev pub write_answer : Verdict → Answer
 write_answer Good = answer.WriteDone
 write_answer Wrong = answer.WriteMissed
 write_answer Stale = answer.Stale
 
--- the answer to an arrival that answers a frame of register writes, by its judged datagrams: of one block by its verdict (`write_answer`), of several `Written` with what each is; `Stale` where all are stale or there is none
+-- the answer to an arrival that answers a frame of register writes, by its judged datagrams: for one block by its verdict
+-- (`write_answer`), for several `Written` with the outcome of each; `Stale` if all are stale or there is none
 abbrev pub judged_blocks_answer : List Judged → Answer
 judged_blocks_answer [] = answer.Stale
 judged_blocks_answer (datagram ∷ []) = write_answer datagram.verdict
 judged_blocks_answer (datagram ∷ next ∷ datagrams) =
     if list_any is_current (datagram ∷ next ∷ datagrams) then answer.Written (map outcome_for (datagram ∷ next ∷ datagrams)) else answer.Stale
 
--- the answer to an arrival by its judged datagrams: where the first one is a register block as all of them are (`judged_blocks_answer`), else `Answered` with what each is; `Stale` where all are stale or there is none
+-- the answer to an arrival by its judged datagrams: if the first one is a register block, that of register writes
+-- (`judged_blocks_answer`), otherwise `Answered` with the outcome of each; `Stale` if all are stale or there is none
 abbrev pub judged_answer : List Judged → Answer
 judged_answer [] = answer.Stale
 judged_answer (datagram ∷ datagrams) =
     if is_block datagram.head.item then judged_blocks_answer (datagram ∷ datagrams)
     else (if list_any is_current (datagram ∷ datagrams) then answer.Answered (map outcome_for (datagram ∷ datagrams)) else answer.Stale)
 
--- the answer to an arrival as it was read: the refusal with the fault for which it can't be read, else what is said of the datagrams that it answers (`judged_by`)
+-- the answer to an arrival as it was read: the refusal with the fault why it cannot be read, otherwise the answer by the
+-- datagrams that it answers (`judged_by`)
 abbrev pub arrival_answer : History → Result Arrival FrameFault → Answer
 arrival_answer history (Err fault) = answer.Refused (frame_refusal fault)
 arrival_answer history (Ok arrival) = judged_answer (judged_by history arrival)
 
--- the record with the arrival as its newest entry; as it was where the arrival couldn't be read
+-- the record with the arrival as its newest entry; unchanged if the arrival could not be read
 abbrev pub with_arrival : History → Result Arrival FrameFault → History
 with_arrival history (Err fault) = history
 with_arrival history (Ok arrival) = Came arrival ∷ history
 
--- what a task reads
+-- the data that a task reads
 
--- what refuses a read: 8 no such task
+-- the fault of a read: `NoSuchTask`
 abbrev pub read_faults : ℕ → List (Bool × CoreFault)
 read_faults task = (is_no_task task, NoSuchTask) ∷ []
 
--- what a read of a task is answered: the epoch, and the data of each of the task's datagrams
+-- the answer to a read of a task: the epoch, and the data of each of the task's datagrams
 abbrev pub image_of : History → ℕ → Answer
 image_of history task = answer.Image (epoch_of history) (slots_of history task)
 
 -- forgetting a slave's registers
 
--- what refuses it, in order, as an edit of one of the slave's areas is refused: 5 no declared slave has the station address, 6 that slave isn't in the line
+-- the faults of forgetting a slave, in order, as an edit of one of the slave's areas is refused: `UnknownStation` if no
+-- declared slave has the station address; `Absent` if that slave is not in the line
 abbrev pub forget_faults : History → ℕ → List (Bool × CoreFault)
 forget_faults history station =
     (not (is_declared_station (state_of history) station), UnknownStation)
@@ -264,11 +284,12 @@ forget_faults history station =
 
 -- clearing and unplugging a slave
 
--- what refuses clearing a slave: 5 no declared slave has the station address
+-- the fault of clearing a slave: `UnknownStation` if no declared slave has the station address
 abbrev pub clear_faults : History → ℕ → List (Bool × CoreFault)
 clear_faults history station = (not (is_declared_station (state_of history) station), UnknownStation) ∷ []
 
--- what refuses a slave's unplugging, in order: 5 no declared slave has the station address, 2 the slave is in the line
+-- the faults of unplugging a slave, in order: `UnknownStation` if no declared slave has the station address; `AlreadyPresent`
+-- if the slave is in the line
 abbrev pub unplug_faults : History → ℕ → List (Bool × CoreFault)
 unplug_faults history station =
     (not (is_declared_station (state_of history) station), UnknownStation)

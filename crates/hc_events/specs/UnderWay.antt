@@ -14,6 +14,6 @@ is_write_awaited history write = is_some (awaited history write.0)
 abbrev pub is_under_way : History → ℕ → ℕ → Bool
 is_under_way history station number = option_map_or (is_write_awaited history) (last_write history station number) false
 
--- the owed blocks that aren't under way, in line order and block order
+-- the owed blocks that are not under way, in line order and block order
 abbrev pub further_blocks : History → List LineBlock
 further_blocks history = filter (λ block. not (is_under_way history block.station block.number)) (owed_blocks history)

@@ -1,4 +1,4 @@
--- What holds of register blocks that are under way, and of frames of further ones.
+-- Laws of register blocks that are under way, and of frames of further ones.
 use Rattle.std.specs.Prelude.{◌≡◌, ℕ, ◌==◌, true, false, All, Contains, List, ◌∷◌, Some}
 use Rattle.std.specs.List.{list_any}
 use Rattle.hc_registers.specs.Blocks.{LineBlock, line_blocks}
@@ -20,7 +20,7 @@ pub record IsAsAtFirst (history : History) : Type 0 where
   pub answer : answer_to history SendsFurther ≡ answer_to history SendsWrites
   pub entries : entries_after history SendsFurther ≡ entries_after history SendsWrites
 
--- so it is where no owed block is under way
+-- `IsAsAtFirst` holds if no owed block is under way
 abbrev pub FurtherIsAsAtFirst : Type 0
 FurtherIsAsAtFirst =
     (history : History) → All (λ block. is_under_way history block.station block.number ≡ false) (owed_blocks history) → IsAsAtFirst history
@@ -34,7 +34,8 @@ pub record IsLeftAwaited (history : History) (entry : HistoryEntry) (serial : �
   pub there : awaited (entry ∷ history) serial ≡ Some (followed_by entry sending)
   pub judged : (item : Item) → CarriesItem item sending → is_outdated item (entry ∷ sending.since) ≡ is_outdated item sending.since
 
--- so it is with each frame that is awaited, of tasks or of register writes, where a further frame is sent and no slave was forgotten since
+-- `IsLeftAwaited` holds for each frame that is awaited, of tasks or of register writes, if a further frame is sent and no slave
+-- was forgotten since
 abbrev pub FurtherLeavesAwaited : Type 0
 FurtherLeavesAwaited =
     (history : History) (serial : ℕ) (sending : Sending) → awaited history serial ≡ Some sending → list_any is_forgetting sending.since ≡ false
@@ -50,7 +51,7 @@ OlderAnswersLeaveKnown =
 abbrev pub UnderWayIsOwed : Type 0
 UnderWayIsOwed = (history : History) (block : LineBlock) → is_under_way history block.station block.number ≡ true → is_owed history block ≡ true
 
--- a block of the line whose own datagram came back good isn't owed any more, whatever else is under way
+-- a block of the line whose own datagram came back good is no longer owed, whatever else is under way
 abbrev pub GoodAnswersEndOwing : Type 0
 GoodAnswersEndOwing =
     (history : History) (arrival : Arrival) (block : LineBlock) → IsReachable history → HasOwnNames (line_of history) → Contains (line_blocks (line_of history)) block

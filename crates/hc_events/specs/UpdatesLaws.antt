@@ -1,5 +1,5 @@
--- What holds of updates and of changes: what is read is the last good answer in them, and a legal list of changes decides what is read by
--- itself.
+-- Laws of updates and of changes: a task reads the data of the last good answer in them, and a legal list of changes alone
+-- decides which data are read.
 use Rattle.std.specs.Prelude.{◌≡◌, ◌↔◌, ℕ, false, All, Contains, List, [], ◌∷◌, ◌++◌, map, None, Some}
 use Rattle.std.specs.List.{list_any, zip}
 use Rattle.hc_records.specs.declared.records.Group.{Group}
@@ -23,11 +23,12 @@ pub record Grows (old new : List Update) : Type 0 where
   pub more : List Update
   pub joined : new ≡ old ++ more
 
--- so do any events after any record
+-- `Grows` holds for the updates before any events and after them
 abbrev pub UpdatesOnlyGrow : Type 0
 UpdatesOnlyGrow = (history : History) (steps : List Step) → Grows (updates_of history) (updates_of (entries_after_all history steps))
 
--- a datagram of an arrival, good when it came: the arrival answered a sending with this datagram, which wasn't sent again since, and it came back with the expected working counter and these data
+-- a datagram of an arrival, good when it came: the arrival answered a sending with this datagram, which was not sent again
+-- since, and it came back with the expected working counter and these data
 pub record IsGoodAnswer (history : History) (good : NewAnswer) : Type 0 where
   pub since : List HistoryEntry
   pub arrival : Arrival
@@ -48,7 +49,7 @@ abbrev pub AreUpdatesOf : History → Update → Type 0
 AreUpdatesOf history (Swapped edit) = Contains history (Edited edit)
 AreUpdatesOf history (Answered good) = IsGoodAnswer history good
 
--- so it is of all the updates of a record
+-- `AreUpdatesOf` holds for all updates of a record
 abbrev pub UpdatesAreOfTheHistory : Type 0
 UpdatesAreOfTheHistory = (history : History) → All (AreUpdatesOf history) (updates_of history)
 
@@ -65,7 +66,7 @@ pub record IsLastAnswer (task d : ℕ) (bytes : List ℕ) (updates : List Update
   pub split : updates ≡ before ++ Answered (record { task = task; datagram = d; bytes = bytes }) ∷ after_it
   pub leaves : All (LeavesData task d) after_it
 
--- what a task reads of a datagram is just that
+-- the data that a task reads of a datagram are those of its last good answer in the updates
 abbrev pub SlotsAreLastAnswers : Type 0
 SlotsAreLastAnswers = (history : History) (task d : ℕ) (bytes : List ℕ) → (slot_of history task d ≡ Some bytes) ↔ IsLastAnswer task d bytes (updates_of history)
 
@@ -82,7 +83,7 @@ pub record DecidesAll (groups : List Group) (changes : List Change) : Type 0 whe
   pub slots : (task d : ℕ) (bytes : List ℕ) → (slot_after task d None changes ≡ Some bytes) ↔ IsLastAnswer task d bytes (map update_in changes)
   pub fits : (task d : ℕ) (bytes : List ℕ) → slot_after task d None changes ≡ Some bytes → IsAnswerIn (state_after_changes (opened groups) changes) task d bytes
 
--- so does each legal one
+-- `DecidesAll` holds for each legal list of changes
 abbrev pub LegalChangesDecide : Type 0
 LegalChangesDecide = (groups : List Group) (changes : List Change) → AreLegal groups changes → DecidesAll groups changes
 
@@ -98,7 +99,7 @@ pub record LeadsToHistory (groups : List Group) (history : History) (changes : L
   pub epoch : epoch_after 0 changes ≡ epoch_of history
   pub slots : (task d : ℕ) → slot_after task d None changes ≡ slot_of history task d
 
--- so does each legal list that gives the record's edits and answers, however its swaps come to the next places
+-- `LeadsToHistory` holds for each legal list with the record's edits and answers, however its swaps come to the next places
 abbrev pub ChangesShowAll : Type 0
 ChangesShowAll =
     (history : History) (changes : List Change) → IsReachable history → AreLegal (opened_with history) changes
@@ -110,7 +111,7 @@ pub record LeadToTheSame (groups : List Group) (first second : List Change) : Ty
   pub epoch : epoch_after 0 first ≡ epoch_after 0 second
   pub slots : (task d : ℕ) → slot_after task d None first ≡ slot_after task d None second
 
--- so do two legal ones of a project that name the same edits and the same answers
+-- `LeadToTheSame` holds for two legal lists of a project that name the same edits and the same answers
 abbrev pub LegalChangesAgree : Type 0
 LegalChangesAgree =
     (groups : List Group) (first second : List Change) → AreLegal groups first → AreLegal groups second

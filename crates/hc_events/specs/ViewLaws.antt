@@ -1,4 +1,4 @@
--- What holds of lists of changes one after another, and of what they show. Each law is the contract of a function of `laws`.
+-- Laws of lists of changes one after another, and of the data that they show. Each law is the contract of a function of `laws`.
 use Rattle.std.specs.Prelude.{◌≡◌, ◌↔◌, ℕ, ◌<◌, ◌≤◌, List, ◌++◌, length, map, Option, None}
 use Rattle.std.specs.List.{range_with_len}
 use Rattle.hc_records.specs.declared.limits.TheConstants.{LAST_EPOCH, TASKS}
@@ -15,18 +15,18 @@ use Rattle.hc_events.specs.Steps.{Reads, answer_to}
 use Rattle.hc_events.specs.Accepted.{IsReachable}
 use Rattle.hc_events.specs.UpdatesLaws.{state_after_changes}
 
--- after two lists of changes in a row is what the second leads to from where the first one leads
+-- two lists of changes in a row lead to the same as the second from the table and the data that the first one leads to
 pub record LeadsOn (first second : List Change) : Type 0 where
   pub table : (table : Table) → table_after table (first ++ second) ≡ table_after (table_after table first) second
   pub epoch : (epoch : ℕ) → epoch_after epoch (first ++ second) ≡ epoch_after (epoch_after epoch first) second
   pub slots : (task d : ℕ) (slot : Option (List ℕ)) → slot_after task d slot (first ++ second) ≡ slot_after task d (slot_after task d slot first) second
   pub state : (state : State) → state_after_changes state (first ++ second) ≡ state_after_changes (state_after_changes state first) second
 
--- so it is with any two
+-- `LeadsOn` holds for any two lists of changes
 abbrev pub ChangesLeadOn : Type 0
 ChangesLeadOn = (first second : List Change) → LeadsOn first second
 
--- two lists in a row are legal just where the first is, and the second from the state after it
+-- two lists in a row are legal exactly if the first is, and the second from the state after it
 abbrev pub LegalJoins : Type 0
 LegalJoins =
     (state : State) (first second : List Change)
@@ -36,7 +36,8 @@ LegalJoins =
 abbrev pub LegalEpochsFit : Type 0
 LegalEpochsFit = (groups : List Group) (changes : List Change) → AreLegal groups changes → epoch_after 0 changes ≤ LAST_EPOCH
 
--- what a list of changes shows of a task of a project: the epoch, and of each datagram that the table after it has of the task the data after it, or none
+-- the answer that a list of changes shows for a task of a project: the epoch, and for each datagram that the table after it has
+-- of the task the data after it, or none
 abbrev pub answer_shown : List Group → List Change → ℕ → Answer
 answer_shown groups changes task =
     answer.Image

@@ -1,6 +1,7 @@
--- What the words of a history say where no slave's registers are forgotten, and each register write is sent in a frame of its own. These are the words as they were before there was anything else, and they stay
--- as they are for good: a law says that the core answers every such history as these words have it (`laws`). Of the blocks that a frame writes they see the first one alone. Words that depend on neither are the
--- other files'.
+-- The words of a history in which no slave's registers are forgotten, and each register write is sent in a frame of its own.
+-- These are the words as they were before there was anything else, and they stay as they are for good: a law says that the core
+-- answers every such history as these words have it (`laws`). Of the blocks that a frame writes they see only the first one.
+-- Words that depend on neither are those of the other files.
 use Rattle.std.specs.Prelude.{ℕ, ◌==◌, ◌&&◌, ◌||◌, not, nat_lt, Bool, false, if◌then◌else◌, List, [], ◌∷◌, ◌++◌, filter, fold, length, map, Option, Some, None, option_and_then, option_map, Result, Ok, Err}
 use Rattle.std.specs.Option.{option_map_or}
 use Rattle.std.specs.List.{flat_map, list_all, list_any, range_with_len, zip}
@@ -49,11 +50,12 @@ sending_of (Wrote (block ∷ blocks) ∷ history) serial =
     else option_map (followed_by (Wrote (block ∷ blocks))) (sending_of history serial)
 sending_of (entry ∷ history) serial = option_map (followed_by entry) (sending_of history serial)
 
--- the sending that an arrival answers: the one with its serial, where the arrival is an answer to it; none otherwise
+-- the sending that an arrival answers: the one with its serial, if the arrival is an answer to it; otherwise none
 abbrev pub answered_by : History → Arrival → Option Sending
 answered_by history arrival = option_and_then (only_if (is_answer arrival)) (sending_of history arrival.serial)
 
--- what an answer is for a datagram: stale where the same datagram or block was sent again since, else good or wrong by its working counter
+-- the verdict on an answer to a datagram: stale if the same datagram or block was sent again since, otherwise good or wrong by
+-- its working counter
 abbrev pub verdict : List HistoryEntry → Head → Part → Verdict
 verdict since head part =
     if list_any (sends head.item) since then Stale else (if part.counter == head.expected then Good else Wrong)
@@ -66,7 +68,7 @@ judge since pair = record { head = pair.0; part = pair.1; verdict = verdict sinc
 abbrev pub judged : Arrival → Sending → List Judged
 judged arrival sending = map (judge sending.since) (zip sending.heads arrival.parts)
 
--- the datagrams of the sending that an arrival answers; none where it answers none
+-- the datagrams of the sending that an arrival answers; none if it answers none
 abbrev pub judged_by : History → Arrival → List Judged
 judged_by history arrival = option_map_or (judged arrival) (answered_by history arrival) []
 
@@ -80,7 +82,7 @@ still_awaited serial sending =
     if is_ended serial sending || all_sent_again sending.since sending.heads then None
     else Some (record { heads = sending.heads; since = filter is_no_arrival sending.since })
 
--- what is awaited with a serial
+-- the awaited sending with a serial, or none
 abbrev pub awaited : History → ℕ → Option Sending
 awaited history serial = option_and_then (still_awaited serial) (sending_of history serial)
 
@@ -139,11 +141,11 @@ was_confirmed (entry ∷ history) serial = was_confirmed history serial
 abbrev pub if_confirmed : History → ℕ × List ℕ → Option (List ℕ)
 if_confirmed history write = if was_confirmed history write.0 then Some write.1 else None
 
--- the bytes that a slave is known to have in a block: those of its last write, where that had a good answer
+-- the bytes that a slave is known to have in a block: those of its last write, if that had a good answer
 abbrev pub known_bytes : History → ℕ → ℕ → Option (List ℕ)
 known_bytes history station number = option_and_then (if_confirmed history) (last_write history station number)
 
--- a block is owed where its known bytes aren't those that the line configures, or there are none
+-- a block is owed if its known bytes are not those that the line configures, or if there are none
 abbrev pub is_owed : History → LineBlock → Bool
 is_owed history block = not (option_map_or (bytes_eq block.block.bytes) (known_bytes history block.station block.number) false)
 
@@ -151,7 +153,8 @@ is_owed history block = not (option_map_or (bytes_eq block.block.bytes) (known_b
 abbrev pub owed_blocks : History → List LineBlock
 owed_blocks history = filter (is_owed history) (line_blocks (line_of history))
 
--- what refuses sending tasks, in order: 8 one is no task, 17 blocks are owed, with their number, 19 fewer serials are left than frames
+-- the faults of sending tasks, in order: `NoSuchTask` if one is no task; `Unprogrammed` if blocks are owed, with their number;
+-- `SerialsSpent` if fewer serials are left than frames
 abbrev pub task_faults : History → List ℕ → List (Bool × CoreFault)
 task_faults history tasks =
     (list_any is_no_task tasks, NoSuchTask)
@@ -159,7 +162,7 @@ task_faults history tasks =
     ∷ (not (has_serials history (length (proposal history tasks))), SerialsSpent)
     ∷ []
 
--- what is said of a judged datagram of a task
+-- the outcome of a good datagram of a task
 abbrev pub inputs_of : Item → Outcome
 inputs_of (Datagram task d) = outcome.Inputs task d
 inputs_of (Block station number) = outcome.Stale
@@ -170,7 +173,7 @@ outcome_of head part Good = inputs_of head.item
 outcome_of head part Wrong = outcome.WrongCount head.expected part.counter
 outcome_of head part Stale = outcome.Stale
 
--- the same of the judged datagram
+-- the outcome of a judged datagram
 abbrev pub outcome_for : Judged → Outcome
 outcome_for datagram = outcome_of datagram.head datagram.part datagram.verdict
 

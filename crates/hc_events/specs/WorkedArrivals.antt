@@ -78,7 +78,7 @@ same_index : map (answer_to later) (
 unfolding bit_of number_of starts_within
 same_index = refl
 
--- A frame that can't be read is refused by the first fault that it has, and leaves the record as it was.
+-- A frame that cannot be read is refused by the first fault that it has, and leaves the record as it was.
 
 unreadable : map (answer_to sent_once) (Arrives [] ∷ Arrives (take 27 inputs_back) ∷ Arrives (take 30 inputs_back) ∷ [])
     ≡ answer.Refused Short ∷ answer.Refused Short ∷ answer.Refused BadLength ∷ []

@@ -1,4 +1,4 @@
--- Worked histories where a slave is forgotten, computed by the definitions: a wrong definition fails here.
+-- Worked histories in which a slave is forgotten, computed by the definitions: a wrong definition fails here.
 use Rattle.std.specs.Prelude.{◌≡◌, ℕ, List, [], ◌∷◌, ◌++◌, map, replicate, refl, Some}
 use Rattle.hc_bits.specs.Bits.{bit_of, number_of}
 use Rattle.hc_frames.specs.Arrived.{starts_within}
@@ -44,7 +44,7 @@ forgotten_axis : answers_to written with_a_frame
 unfolding bit_of number_of starts_within
 forgotten_axis = refl
 
--- how many blocks are owed before it is forgotten, after that, after a write of the first one, and after its answer
+-- the number of owed blocks before the slave is forgotten, after that, after a write of the first one, and after its answer
 
 abbrev written_anew : History
 written_anew = entries_after_all written (Forgets 1001 ∷ SendsWrite ∷ [])

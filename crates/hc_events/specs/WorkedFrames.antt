@@ -47,7 +47,7 @@ shared_frame : answers_to moved (SendsTasks (0 ∷ 1 ∷ []) ∷ back 6 (first_b
 unfolding bit_of number_of starts_within
 shared_frame = refl
 
--- a datagram that was sent again is stale in the older frame, and the other one isn't
+-- a datagram that was sent again is stale in the older frame, and the other one is not
 
 abbrev sent_again : History
 sent_again = entries_after_all moved (
@@ -187,7 +187,7 @@ long_slaves =
     }
     ∷ []
 
--- 8 bytes, and 1,480 that don't fit after them into 1,486
+-- 8 bytes, and 1,480 that do not fit after them into 1,486
 abbrev first_bytes : List ℕ
 first_bytes = 0x01 ∷ 0x02 ∷ 0x03 ∷ 0x04 ∷ 0x05 ∷ 0x06 ∷ 0x07 ∷ 0x08 ∷ []
 

@@ -85,14 +85,15 @@ all_again : answers_to both_under_way (SendsWrites ∷ three_back 1 1 1 1 ∷ wr
 unfolding bit_of number_of starts_within
 all_again = refl
 
--- Where nothing is under way, a further frame is the frame of the first owed blocks.
+-- A further frame is the frame of the first owed blocks if nothing is under way.
 
 at_first : answers_to opened (SendsFurther ∷ four_of_axis 0 ∷ SendsFurther ∷ [])
     ≡ answer.WritesSent (four_writes 0) ∷ answer.Written (Done ∷ Done ∷ Done ∷ Done ∷ []) ∷ answer.Refused NothingOwed ∷ []
 unfolding bit_of number_of starts_within
 at_first = refl
 
--- how many blocks a further frame could carry: at the opening, with one and with two frames under way, after an edit, which leaves nothing under way, and after the answers to both
+-- the number of blocks that a further frame could carry: at the opening, with one and with two frames under way, after an edit,
+-- which leaves nothing under way, and after the answers to both
 
 further_counts : map (λ history. length (further_blocks history)) (
     opened
@@ -123,7 +124,8 @@ others_again : answers_to (entries_after_all all_four (one_forgotten ++ SendsFur
 unfolding bit_of number_of starts_within
 others_again = refl
 
--- how many blocks a further frame could carry: with the frame of four under way, with one slave forgotten, after the frame that starts over, and after one more
+-- the number of blocks that a further frame could carry: with the frame of four under way, with one slave forgotten, after the
+-- frame that starts over, and after one more
 
 forgotten_counts : map (λ history. length (further_blocks history)) (
     all_four
@@ -135,7 +137,7 @@ forgotten_counts : map (λ history. length (further_blocks history)) (
 unfolding bit_of number_of starts_within
 forgotten_counts = refl
 
--- A slice that is a byte too short is refused with the bytes that the whole frame needs; but only where nothing else is.
+-- A slice that is a byte too short is refused with the bytes that the whole frame needs, but only if there is no other fault.
 
 short_slices : map (λ bytes. lowest (further_into_faults (entries_after_all opened (SendsWrite ∷ [])) bytes)) (0 ∷ 91 ∷ 92 ∷ []) ≡ Some (Room 92) ∷ Some (Room 92) ∷ None ∷ []
 unfolding bit_of number_of starts_within

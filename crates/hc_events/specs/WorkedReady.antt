@@ -60,13 +60,14 @@ no_datagram_waits :
 unfolding bit_of number_of starts_within
 no_datagram_waits = refl
 
--- Two moves without a write between: the register holds the first mapping, so tasks 0 and 2 wait, and task 1 doesn't.
+-- Two moves without a write between: the register holds the first mapping, so that tasks 0 and 2 wait, and task 1 does not.
 
 two_moves : waits (entries_after_all written (input_to 1 ∷ input_to 2 ∷ [])) ≡ (1, 0) ∷ (0, 0) ∷ (1, 0) ∷ []
 unfolding bit_of number_of starts_within
 two_moves = refl
 
--- A write that missed, one that is lost, and the late answer to one that was sent again since leave what the register may hold; the good answer to the last one doesn't.
+-- A write that missed, one that is lost, and the late answer to one that was sent again since leave the bytes that the register
+-- may hold. The good answer to the last one does not.
 
 abbrev late_answers : List Step
 late_answers = input_to 1 ∷ SendsWrite ∷ write_back 4 0x0610 16 0 ∷ SendsWrite ∷ SendsWrite ∷ write_back 5 0x0610 16 1 ∷ []
@@ -77,7 +78,7 @@ bad_answers_leave :
 unfolding bit_of number_of starts_within
 bad_answers_leave = refl
 
--- A cell with a gripper in task 2, whose group isn't in the line at first.
+-- A cell with a gripper in task 2, whose group is not in the line at first.
 
 abbrev gripper : Slave
 gripper = record {

@@ -59,7 +59,7 @@ wrong_counters : answers_to answered_twice (
 unfolding bit_of number_of starts_within
 wrong_counters = refl
 
--- What is sent before anything was posted is 0, and what is sent to no task that there is is refused.
+-- A task that posted nothing is sent with zeros, and a sending of a task that does not exist is refused.
 
 unposted : answers_to written (SendsTasks (0 ∷ []) ∷ SendsTasks (8 ∷ []) ∷ SendsTasks (1 ∷ []) ∷ [])
     ≡ answer.Sent ((head_of 4 0x0f ++ 0x0c ∷ 0x04 ∷ 0 ∷ 0 ∷ 0 ∷ 0x01 ∷ 0x03 ∷ replicate 37 0) ∷ [])
@@ -151,7 +151,8 @@ zeros_again : answer_to (entries_after_all docked (Edits (Disconnect 100) ∷ Ed
 unfolding bit_of number_of starts_within
 zeros_again = refl
 
--- Two tools with a byte of outputs each: a value goes with its variable to another place, and is 0 where the variable's tool comes again.
+-- Two tools with a byte of outputs each: a value goes with its variable to another place, and is 0 once the variable's tool
+-- comes again.
 
 abbrev byte_slave : ℕ → ℕ → Slave
 byte_slave station variable = record { station = station; areas = area_of 2 Out 0x1100 0x1600 variable 8 ∷ [] }

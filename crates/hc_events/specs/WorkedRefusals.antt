@@ -13,7 +13,7 @@ use Rattle.hc_events.specs.Calls.{send_into_faults, write_into_faults}
 use Rattle.hc_events.specs.Steps.{Posts, SendsTasks, Reads, answers_to, post_faults, serials_left, task_faults, write_faults}
 use Rattle.hc_events.specs.WorkedAxis.{opened, written}
 
--- Where several refusals hold, the first one is answered: no such task, another epoch, another length.
+-- The first of several refusals is the answer: no such task, another epoch, another length.
 
 refused_posts : answers_to written (
     Posts 8 1 (2 ∷ 0 ∷ [])
@@ -31,7 +31,8 @@ refused_posts : answers_to written (
 unfolding bit_of number_of starts_within
 refused_posts = refl
 
--- While blocks are owed no task is sent, also one without datagrams; but a task that there isn't is refused as such, beside others too.
+-- While blocks are owed no task is sent, also one without datagrams; but a task that does not exist is refused as such, beside
+-- others too.
 
 refused_sendings : answers_to opened (
     SendsTasks (8 ∷ [])
@@ -72,7 +73,8 @@ write_order history blocks = refl
 last_serial : map (serials_left 1099511627774) (0 ∷ 1 ∷ 2 ∷ []) ≡ true ∷ true ∷ false ∷ []
 last_serial = refl
 
--- A slice that is a byte too short for the frames is refused with the bytes that they need, but only where nothing else is; no frame needs no byte.
+-- A slice that is a byte too short for the frames is refused with the bytes that they need, but only if there is no other
+-- fault; no frame needs no byte.
 
 short_slices : map (λ bytes. lowest (write_into_faults opened bytes)) (59 ∷ 60 ∷ []) ≡ Some (Room 60) ∷ None ∷ []
 unfolding bit_of number_of starts_within

@@ -88,7 +88,7 @@ over_the_edit = running ++ Edits (Connect 100) ∷ Clears 1004 ∷ []
 abbrev sent_again : List Step
 sent_again = over_the_edit ++ SendsReady (0 ∷ []) ∷ back 5 (data_back 0x01000000 (0x02 ∷ 0x35 ∷ 0x0b ∷ []) 3 ∷ []) ∷ []
 
--- what task 0 reads of its datagram after these events, and its steady data
+-- the data that task 0 reads of its datagram after these events, and its steady data
 abbrev data_after : List Step → Option (List ℕ) × Option SteadyData
 data_after steps = (slot_of (entries_after_all cell steps) 0 0, steady_data (entries_after_all cell steps) 0 0)
 
@@ -161,7 +161,7 @@ steady_posts_over_the_edit :
 unfolding bit_of number_of starts_within
 steady_posts_over_the_edit = refl
 
--- what task 0 is sent with after these events in the cell
+-- the data that task 0 is sent with after these events in the cell
 abbrev sent_after : List Step → List ℕ
 sent_after steps = sent_data (entries_after_all cell steps) 0 0
 

@@ -133,7 +133,8 @@ started_over : answers_to (entries_after_all all_four (Forgets 1002 ∷ SendsWri
 unfolding bit_of number_of starts_within
 started_over = refl
 
--- how many blocks are owed: at the opening, with the frame of all under way, after its answer, and after its answer with one slave forgotten before
+-- the number of owed blocks: at the opening, with the frame of all under way, after its answer, and after its answer with one
+-- slave forgotten before
 
 owed_counts : map owed_count (
     two_slaves
@@ -145,7 +146,8 @@ owed_counts : map owed_count (
 unfolding bit_of number_of starts_within
 owed_counts = refl
 
--- A slice that is a byte too short is refused with the bytes that the whole frame needs, whatever would fit; but only where nothing else is.
+-- A slice that is a byte too short is refused with the bytes that the whole frame needs, whatever would fit, but only if there
+-- is no other fault.
 
 short_slices : map (λ bytes. lowest (write_all_into_faults one_written bytes)) (0 ∷ 60 ∷ 91 ∷ 92 ∷ []) ≡ Some (Room 92) ∷ Some (Room 92) ∷ Some (Room 92) ∷ None ∷ []
 unfolding bit_of number_of starts_within
@@ -155,7 +157,7 @@ nothing_to_write : lowest (write_all_into_faults written 0) ≡ Some NothingOwed
 unfolding bit_of number_of starts_within
 nothing_to_write = refl
 
--- How many blocks a frame holds: 74 of 8 bytes, and 62 where blocks of 8 and 16 bytes take turns, so that 104 of them take two frames.
+-- A frame holds 74 blocks of 8 bytes, and 62 if blocks of 8 and 16 bytes take turns, so that 104 of them take two frames.
 
 abbrev block_of : ℕ → LineBlock
 block_of size = record { station = 1001; number = 0; block = record { register = 0x0600; bytes = replicate size 0 } }

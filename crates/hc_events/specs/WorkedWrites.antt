@@ -34,7 +34,7 @@ output_sync = 0x00 ∷ 0x11 ∷ 0x01 ∷ 0x00 ∷ 0x64 ∷ 0x00 ∷ 0x01 ∷ 0x0
 abbrev pub input_sync : List ℕ
 input_sync = 0x80 ∷ 0x11 ∷ 0x02 ∷ 0x00 ∷ 0x20 ∷ 0x00 ∷ 0x01 ∷ 0x00 ∷ []
 
--- how many blocks are owed before each of these events, and after the last one
+-- the number of owed blocks before each of these events, and after the last one
 abbrev owed_along : History → List Step → List ℕ
 owed_along history [] = owed_count history ∷ []
 owed_along history (step ∷ steps) = owed_count history ∷ owed_along (entries_after history step) steps
@@ -64,7 +64,7 @@ owed_less_and_less : owed_along opened up_to_the_last ≡ 4 ∷ 4 ∷ 3 ∷ 3 �
 unfolding bit_of number_of starts_within
 owed_less_and_less = refl
 
--- The owed block is written again until an answer confirms it; an answer to an older write of it doesn't.
+-- The owed block is written again until an answer confirms it; an answer to an older write of it does not.
 
 abbrev before_the_last : History
 before_the_last = entries_after_all opened up_to_the_last

@@ -31,6 +31,6 @@ block_datagram block = block_write block.station block.block.register block.bloc
 abbrev pub writes_text : ℕ → List LineBlock → List ℕ
 writes_text serial blocks = frame_text serial (map block_datagram blocks)
 
--- how many these are
+-- the number of bytes of the frame that writes these blocks
 abbrev pub writes_size : List LineBlock → ℕ
 writes_size blocks = frame_bytes (blocks_bytes blocks)

@@ -1,4 +1,5 @@
--- What register writes leave known: what a good answer makes known of a block, and what is owed after frames of writes that are answered well.
+-- Laws of the knowledge that register writes leave: a good answer makes the bytes of a block known. Other laws tell the blocks
+-- that are owed after frames of writes that are answered well.
 use Rattle.std.specs.Prelude.{◌≡◌, ℕ, ◌&&◌, not, true, false, if◌then◌else◌, All, Bool, IsNone, List, [], ◌∷◌, ◌++◌, filter, option_map, Some}
 use Rattle.std.specs.List.{list_all, list_any}
 use Rattle.hc_records.specs.Lists.{lowest}
@@ -13,7 +14,8 @@ use Rattle.hc_events.specs.Points.{line_of}
 use Rattle.hc_events.specs.Steps.{SendsWrites, entries_after, write_faults}
 use Rattle.hc_events.specs.WriteFrames.{frame_blocks}
 
--- an arrival where a block's datagram is good makes the bytes of the block's last write known; of any other block the same is known as before
+-- an arrival with a good datagram of a block makes the bytes of the block's last write known; the known bytes of any other
+-- block stay
 abbrev pub GoodAnswersMakeKnown : Type 0
 GoodAnswersMakeKnown =
     (history : History) (arrival : Arrival) (station number : ℕ)
@@ -26,8 +28,9 @@ GoodAnswersMakeKnown =
 abbrev pub confirms_block : Judged → Bool
 confirms_block datagram = is_block datagram.head.item && has_good datagram
 
--- an entry that comes after a record leaves what is known of register blocks: it is no edit, no register write and no forgotten slave, and where it is an arrival it confirms no register block. So it is with
--- posts, frames of tasks, and arrivals that are stale or that answer frames of tasks; a read is no entry
+-- an entry after a record leaves the knowledge of register blocks: it is no edit, no register write and no forgotten slave, and
+-- if it is an arrival it confirms no register block. Such are posts, frames of tasks, and arrivals that are stale or that
+-- answer frames of tasks; a read is no entry
 abbrev pub leaves_known : History → HistoryEntry → Bool
 leaves_known history (Opened groups) = false
 leaves_known history (Edited edit) = false
@@ -36,7 +39,7 @@ leaves_known history (Forgot station) = false
 leaves_known history (Came arrival) = not (list_any confirms_block (judged_by history arrival))
 leaves_known history entry = true
 
--- so does each of these entries, the newest first
+-- each of these entries leaves the knowledge, the newest first
 abbrev pub leave_known : History → List HistoryEntry → Bool
 leave_known history [] = true
 leave_known history (entry ∷ since) = leaves_known (since ++ history) entry && leave_known history since
@@ -47,11 +50,11 @@ pub record Round : Type 0 where
   pub since : List HistoryEntry
   pub arrival : Arrival
 
--- the record where the frame is sent
+-- the record at the sending of the frame
 abbrev pub sent_at : History → Round → History
 sent_at history round = round.before ++ history
 
--- the record where its answer comes
+-- the record at the arrival of the answer
 abbrev pub answered_at : History → Round → History
 answered_at history round = round.since ++ entries_after (sent_at history round) SendsWrites
 
@@ -88,11 +91,13 @@ carried_blocks history (round ∷ rounds) = frame_blocks (owed_blocks (sent_at h
 abbrev pub is_carried : List LineBlock → LineBlock → Bool
 is_carried blocks block = sends (block_item block) (Wrote blocks)
 
--- after the frames and their answers the blocks are owed that none of the frames carried; where they carried all that was owed nothing is
+-- after the frames and their answers the blocks are owed that none of the frames carried; if they carried all owed blocks,
+-- nothing is owed
 pub record AreKnown (history : History) (rounds : List Round) : Type 0 where
   pub owed : owed_blocks (after_all_done history rounds) ≡ filter (λ block. not (is_carried (carried_blocks history rounds) block)) (owed_blocks history)
   pub nothing : All (λ block. is_carried (carried_blocks history rounds) block ≡ true) (owed_blocks history) → owed_blocks (after_all_done history rounds) ≡ []
 
--- so it is in a project's line, whatever posts, reads, frames of tasks and arrivals that confirm no register block came in between
+-- `AreKnown` holds in a project's line, whatever posts, reads, frames of tasks and arrivals that confirm no register block came
+-- in between
 abbrev pub DoneWritesAreKnown : Type 0
 DoneWritesAreKnown = (history : History) (rounds : List Round) → HasOwnNames (line_of history) → AreDone history rounds → AreKnown history rounds

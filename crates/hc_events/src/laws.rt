@@ -33,7 +33,7 @@ pub fn stale_arrivals_can_go()
     ensures { StaleArrivalsCanGo }
 {}
 
-/// Whether an arrival is stale follows from the record without the arrivals that were stale before it.
+/// An arrival is stale exactly if it is stale to the record without the stale arrivals before it.
 pub fn stale_is_judged_without()
     ensures { StaleIsJudgedWithout }
 {}

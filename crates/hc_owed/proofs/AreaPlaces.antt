@@ -158,7 +158,7 @@ one-area state i n a b project first second station number =
     let same = one-index (λ (slave : Slave). slave.station) (declared_slaves state.groups) (i / 8) (n / 8) a b (project-inside (groups_of state.groups) project).stations one.declared two.declared station in
     omega (arith, same, number)
 
--- where the slave of an area is in the line, the line has both blocks of the area
+-- if the slave of an area is in the line, the line has both blocks of the area
 pub in-line : (state : State) (n : ℕ) (slave : Slave) → lowest_fault (groups_of state.groups) ≡ None → area_slave state n ≡ Some slave → is_some (slave_at state slave.station) ≡ true
     → (is_some (slot state (2 * n)) ≡ true) × (is_some (slot state (2 * n + 1)) ≡ true)
 in-line state n slave project area inside = by (slave_at state slave.station) refl inside

@@ -1,4 +1,4 @@
--- The block of an area's FMMU names the area's task, where the area has a bit, and no other.
+-- The block of an area's FMMU names the area's task, if the area has a bit, and no other.
 use Rattle.std.proofs.Common.{◌≡◌, ℕ, zero, suc, ◌+◌, ◌-◌, ◌*◌, ◌/◌, ◌%◌, ◌<◌, ◌≤◌, ◌==◌, ◌&&◌, Bool, true, false, cond, Contains, List, [], ◌∷◌, map, refl, sym, ap, ap₂, subst, inl, inr, ◌∙◌, arith}
 use Rattle.std.specs.Prelude.{◌≢◌, All, AllPairs, None, Some, Option, filter, find, is_some, nat_lt, option_and_then, option_map, replicate, slice_get, slice_index_or}
 use Rattle.std.specs.List.{enumerate_from, flat_map}

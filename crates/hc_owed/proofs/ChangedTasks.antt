@@ -137,7 +137,7 @@ block-there state p project here = by (p % 2 == 1) refl (slot state (2 * (p / 2)
         let half : (2 * (p / 2) + 1) / 2 ≡ p / 2 = omega arith in
         ap (λ (n : ℕ). is_some (slot state n)) (sym same) ∙ both-blocks state (p / 2) own.0 project (ap (area_slave state) (sym half) ∙ own.1) ∙ some
 
--- so a block serves a task where its area's FMMU names it
+-- a block serves a task if its area's FMMU names it
 serves-named : (t : ℕ) (state : State) (p : ℕ) (block : LineBlock) → lowest_fault (groups_of state.groups) ≡ None → over_limit_task (line state) ≡ None → slot state p ≡ Some block → serves_task state t block ≡ names_at t state (p / 2)
 serves-named t state p block project uncrowded is = by (slot state (2 * (p / 2) + 1)) refl (fmmu-there state p block project is)
   where
@@ -291,7 +291,7 @@ module _ (areas : List JudgedArea) (gone : Gone) (moved : List RankedBlock) (is 
       let one = contains-unkept (λ (block : RankedBlock). not (list_any (same_block block.found) (line_blocks (line is.old)))) (ranked_blocks (line is.new)) m (subst (λ (l : List RankedBlock). Contains l m) is.blocks has) in
       not-true (list_any (same_block m.found) (line_blocks (line is.old))) one.1
 
-  -- where the edit leaves the task
+  -- the case that the edit leaves the task
 
   module _ (left : leaves_task areas gone t ≡ false) (stays : list_any (moves_task areas t) moved ≡ false) where
     -- the area of a block that moves wasn't in the task
@@ -304,7 +304,7 @@ module _ (areas : List JudgedArea) (gone : Gone) (moved : List RankedBlock) (is 
         sym (ap (λ (b : Bool). b && names_task t m.found.block.bytes) odd)
         ∙ (or_parts (has_task t (own_at areas (block_place m / 2))) (is_fmmu (block_place m) && names_task t m.found.block.bytes) (none-pass (moves_task areas t) moved m has stays)).1
 
-    -- an area in the line is in the task after the edit where it was before
+    -- an area in the line is in the task after the edit if it was before
     same-names : (i : ℕ) → is_some (slot is.new (2 * i + 1)) ≡ true → names_at t is.new i ≡ names_at t is.old i
     same-names i some = by (slot is.new (2 * i + 1)) refl some (moved-at (2 * i + 1))
       where
@@ -327,7 +327,7 @@ module _ (areas : List JudgedArea) (gone : Gone) (moved : List RankedBlock) (is 
             named is.new (Some block) at ∙ ap (λ (b : RegisterBlock). names_task t b.bytes) (sym stood.same)
             ∙ sym (named is.old (Some stood.before) (slot-is is.old (2 * i + 1) (Some stood.before) stood.stood))
 
-    -- so the task has the same block at each place, or none
+    -- the task has the same block at each place, or none
     same-at : (n : ℕ) → filter (serves_task is.old t) (option_to_list (slot is.old n)) ≡ filter (serves_task is.new t) (option_to_list (slot is.new n))
     same-at n = by (slot is.old n) (slot is.new n) refl refl (moved-at n)
       where
@@ -378,7 +378,7 @@ module _ (areas : List JudgedArea) (gone : Gone) (moved : List RankedBlock) (is 
     pub task-stays : task_blocks is.old t ≡ task_blocks is.new t
     task-stays = blocks-old ∙ same-passing (serves_task is.old t) (serves_task is.new t) (places is.old) (places is.new) is.differ.size same-at ∙ sym blocks-new
 
-  -- where the edit changes the task
+  -- the case that the edit changes the task
 
   -- a block of the task in both lines is at one place
   one-place : (p q : ℕ) (block : LineBlock) → slice_get (places is.old) p ≡ Some (Some block) → slice_get (places is.new) q ≡ Some (Some block) → q ≡ p

@@ -1,4 +1,4 @@
--- How many blocks and registers tasks wait for, counted area by area.
+-- The numbers of blocks and registers that tasks wait for, counted area by area.
 use Rattle.std.proofs.Common.{◌≡◌, ℕ, zero, suc, ◌+◌, ◌*◌, ◌<◌, ◌≤◌, Bool, true, false, List, [], ◌∷◌, ◌++◌, length, sum_by, sym, ap, subst, ◌∙◌, arith}
 use Rattle.std.specs.Prelude.{Some, replicate, slice_get, slice_index, slice_set}
 use Rattle.std.proofs.lemmas.List.Folds.{sum_by-replicate}

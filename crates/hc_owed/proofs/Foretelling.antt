@@ -1,4 +1,4 @@
--- What will be kept of the areas once an edit is carried out and each slave that came with it is cleared.
+-- The state of the areas once an edit is carried out and each slave that came with it is cleared.
 use Rattle.std.proofs.Common.{◌≡◌, ℕ, ◌+◌, ◌-◌, ◌*◌, ◌/◌, ◌<◌, ◌≤◌, ◌==◌, ◌&&◌, Bool, true, false, cond, List, [], ◌∷◌, ◌++◌, length, replicate, refl, sym, ap, subst, ◌∙◌, arith}
 use Rattle.std.specs.Prelude.{All, None, Some, Option, is_some, not, option_map, slice_get, unwrap_or}
 use Rattle.std.specs.Option.{option_map_or}
@@ -51,7 +51,7 @@ use Rattle.hc_owed.proofs.ReadyChanging.{area-before, areas-size, change-right, 
 use Rattle.hc_owed.proofs.ReadyEntering.{entered, never-comes, same-line}
 use Rattle.hc_owed.proofs.Tallies.{are-waiting}
 
--- an area after an edit, cleared where its slave came: where it was not in the line before, and is after
+-- an area after an edit, cleared if its slave came: if it was not in the line before, and is after
 abbrev came : Bool → JudgedArea → JudgedArea
 came before now = cond (not before && is_inside now.standing) (area_after Cleared now) now
 
@@ -154,7 +154,7 @@ module _ (areas : List JudgedArea) (owed : RegisterState) (gone : Gone) (moved :
   abbrev left : List JudgedArea
   left = areas_left gone (readiness_of is.known is.held is.unplugged is.old)
 
-  -- a moved block is owed after the edit where what is known before it says so
+  -- a moved block is owed after the edit if the known bytes before it say so
 
   pub not-gone : (m : RankedBlock) → IsAtItsPlace (places is.new) m → IsGone gone (block_place m) → ⊥
   not-gone m at inside = let no : Some None ≡ Some (Some m.found) = sym (is.differ.went (block_place m) inside) ∙ at in let never : None ≡ Some m.found = same_Some None (Some m.found) no in cc
@@ -233,7 +233,7 @@ module _ (areas : List JudgedArea) (owed : RegisterState) (gone : Gone) (moved :
         λ inside. sym before ∙ inside,
       )
 
-  -- an area whose slave did not leave is in the line before the edit where the line has its FMMU's block
+  -- an area whose slave did not leave is in the line before the edit if the line has its FMMU's block
   was-in : (i : ℕ) (slave : Slave) → i < all → (IsGone gone (2 * i + 1) → ⊥) → area_slave is.old i ≡ Some slave → (there' : Bool) → is_some (slot is.old (2 * i + 1)) ≡ there' → was_inside i ≡ there'
   was-in i slave low stays area there' found =
       let rank = is.differ.rank in

@@ -1,4 +1,4 @@
--- What is kept stays right where a slave is forgotten.
+-- The register state stays right if a slave is forgotten.
 use Rattle.std.proofs.Common.{◌≡◌, ℕ, zero, suc, ◌+◌, ◌<◌, ◌≤◌, ◌==◌, ◌||◌, Bool, true, false, cond, List, length, map, refl, sym, ap, subst, ◌∙◌, arith}
 use Rattle.std.specs.Prelude.{◌≢◌, None, Some, Option, is_some, not, option_map, slice_get, unwrap_or}
 use Rattle.std.specs.Option.{option_map_or}
@@ -71,7 +71,7 @@ module _ (station : ℕ) (register_state : RegisterState) where
   owed-above zero i high = refl
   owed-above (suc n) i high = owed-above_if (place_is_of station (below n).stations n) n i (omega (arith, high)) (owed-above n i (omega (arith, high)))
 
-  -- the others are forgotten where they are of the slave
+  -- the other places are forgotten if they are of the slave
 
   abbrev left : Bool → Option (List ℕ) → Option (List ℕ)
   left own known = cond own None known
@@ -126,7 +126,7 @@ module _ (station : ℕ) (register_state : RegisterState) where
   owed-at zero i known owed low at is = absurd (omega (arith, low))
   owed-at (suc n) i known owed low at is = owed-step n i known owed (n == i) refl (omega (arith, low)) at is (λ less. owed-at n i known owed less at is)
 
--- so all places are right
+-- all places are right
 
 owed-then : (bytes : List ℕ) (known : Option (List ℕ)) → (differs bytes known || is_some known) ≡ true
 owed-then bytes None = refl
@@ -194,7 +194,7 @@ forgotten-right station n register_state known state right size =
     ap (forgotten_below station n) right
     ∙ forgotten station known state n (size ∙ ap (λ (b : RegisterState). length b.known) right ∙ length-map (places state) (known_in known))
 
--- where a place has a block
+-- a place that has a block
 
 pub block-owed : (register_state : RegisterState) (n : ℕ) → slice_get register_state.owed n ≡ Some true → true ≡ has_block register_state n
 block-owed register_state n owed = sym (ap (λ (found : Option Bool). unwrap_or found false || is_some (unwrap_or (slice_get register_state.known n) None)) owed)

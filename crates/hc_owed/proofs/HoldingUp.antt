@@ -43,7 +43,7 @@ use Rattle.hc_owed.proofs.TaskLists.{has-where}
 use Rattle.hc_owed.proofs.Waits.{flagged, one-area-flags}
 use Rattle.hc_owed.proofs.WaitsOutside.{area-flag}
 
--- two tests are the same where each follows from the other
+-- two tests are the same if each follows from the other
 same-test : (a b : Bool) → (a ≡ true → b ≡ true) → (b ≡ true → a ≡ true) → a ≡ b
 same-test true b there back = sym (there refl)
 same-test false true there back = back refl
@@ -190,7 +190,7 @@ pairs-line rank (d ∷ groups) slave has =
           (one.0, Contains-append_right (members_from rank (cond d.present d.group.slaves [])) (line_from next groups) one.0 one.1, one.2)
     ]
 
--- slaves of the line pass a test of their station addresses where all that pass are in the line, and so do those outside it
+-- slaves of the line pass a test of their station addresses if all that pass are in the line, and so do those outside it
 
 filter-joined : {X : Type 0} (p : X → Bool) (xs ys : List X) → filter p (xs ++ ys) ≡ filter p xs ++ filter p ys
 filter-joined p [] ys = refl
@@ -463,7 +463,7 @@ module _ (known : Knowledge) (held : Holdings) (unplugged : ℕ → Bool) (state
         let one = contains-unmapped (λ (p : Bool × Slave). p.1) (pairs state.groups) slave (subst (λ (l : List Slave). Contains l slave) (sym (pairs-slaves state.groups)) has) in
         (one.0.0, subst (λ (s : Slave). Contains (pairs state.groups) (pair one.0.0 s)) one.2 one.1)
 
-    -- where its slot is empty it is outside
+    -- a slave is outside the line if its slot is empty
     outside-of : (n : ℕ) → area_slave state n ≡ Some slave → is_some (slot state (2 * n + 1)) ≡ false → Contains (flat_map absent_slaves state.groups) slave
     outside-of n area none = by presence.0 presence.1
       where

@@ -1,4 +1,4 @@
--- What is kept of one area, by what it is made of.
+-- The state of one area, from its parts.
 use Rattle.std.proofs.Common.{◌≡◌, ℕ, ◌+◌, ◌*◌, ◌<◌, ◌==◌, ◌&&◌, ◌||◌, Bool, true, false, if◌then◌else◌, refl, sym, ap, ap₂, ◌∙◌}
 use Rattle.std.specs.Prelude.{None, Some, Option, is_some}
 use Rattle.std.specs.Option.{option_map_or}

@@ -1,4 +1,4 @@
--- What is kept first: lists that grow with the declared slaves, and what they are.
+-- The register state at the opening: its lists grow with the declared slaves, and they are right.
 use Rattle.std.proofs.Common.{◌≡◌, Bool, ℕ, zero, suc, ◌+◌, ◌*◌, ◌/◌, true, false, cond, List, [], ◌∷◌, length, map, refl, ap, arith, length-append, rules}
 use Rattle.std.specs.Prelude.{None, Option, Some, nat_lt, option_map, replicate, slice_get}
 use Rattle.std.specs.List.{flat_map, range_with_len}
@@ -33,7 +33,7 @@ pub all-numbers : (present : Bool) (slave : Slave) (n : ℕ) → n ≡ 16 → ma
 unfolding numbers
 all-numbers present slave n is = ap (λ (k : ℕ). map (slave_has_block present slave) (range_with_len 0 k)) is
 
--- where a slave of the line has a block, it's owed while nothing is known
+-- a block of a slave of the line is owed while nothing is known
 
 owed-below : (xs : List LineBlock) (n areas : ℕ) → length xs ≡ 2 * areas → owed_in nothing_known (slice_get xs n) ≡ nat_lt (n / 2) areas
 owed-below xs n areas size = by (nat_lt (n / 2) areas) refl
@@ -76,6 +76,6 @@ none-bytes (suc n) = ap (λ (rest : List (Option (List ℕ))). None ∷ rest) (n
 abbrev pub register_state_from : List (Option (List ℕ)) → List Bool → List ℕ → RegisterState
 register_state_from known owed stations = record { known = known; owed = owed; stations = stations }
 
--- so nothing known, the places with a block, and the station addresses are what is kept first
+-- the register state at the opening has nothing known, the places with a block, and the station addresses
 pub opened-right : (state : State) (n : ℕ) → n ≡ length (places state) → register_state_from (replicate n None) (declared_flags state.groups) (stations state) ≡ register_state_of nothing_known state
 opened-right state n size = search (rules, none-known, groups-owed)

@@ -279,7 +279,7 @@ module _ (areas : List JudgedArea) (owed : RegisterState) (gone : Gone) (moved :
   out-new i slave area none =
       some-false (is_some (slave_at new slave.station)) (λ inside. let both = (in-line new i slave project' area inside).1 in let no : true ≡ false = sym both ∙ none in cc)
 
-  -- where the line has no block of the area any more
+  -- the case that the line has no block of the area any more
   outside-same : (i : ℕ) (slave other : Slave) → area_slave new i ≡ Some other → other.station ≡ slave.station → is_some (slot new (2 * i + 1)) ≡ false → unplugged' other.station ≡ is.unplugged slave.station
   outside-same i slave other area station none =
       let out = out-new i other area none in

@@ -1,4 +1,4 @@
--- What is kept of the areas is right at the opening.
+-- The state of the areas is right at the opening.
 use Rattle.std.proofs.Common.{◌≡◌, ℕ, ◌+◌, ◌*◌, ◌/◌, ◌%◌, ◌<◌, false, length, refl, sym, ap, ap₂, ◌∙◌, arith}
 use Rattle.std.specs.Prelude.{None, Some, Option, is_some}
 use Rattle.hc_records.specs.declared.records.Slave.{Slave}

@@ -1,4 +1,4 @@
--- What is kept of the areas stays right where a slave is forgotten, cleared or unplugged.
+-- The state of the areas stays right if a slave is forgotten, cleared or unplugged.
 use Rattle.std.proofs.Common.{◌≡◌, ℕ, ◌+◌, ◌*◌, ◌/◌, ◌<◌, ◌≤◌, ◌==◌, ◌&&◌, ◌||◌, Bool, true, false, cond, length, map, refl, sym, ap, ap₂, ◌⊎◌, inl, inr, ◌∙◌, arith}
 use Rattle.std.specs.Prelude.{None, Some, Option, is_some, option_map, slice_get}
 use Rattle.std.specs.List.{range_with_len}
@@ -73,7 +73,7 @@ block-station state n p slave block area half is =
     let one : Some own.slave ≡ Some slave = sym own.area ∙ ap (area_slave state) half ∙ area in
     sym own.station ∙ ap (λ (s : Slave). s.station) (same_Some own.slave slave one)
 
--- where the slave of an area is outside the line, the line has no block of the area
+-- if the slave of an area is outside the line, the line has no block of the area
 pub out-of-line : (state : State) (n : ℕ) (slave : Slave) → area_slave state n ≡ Some slave → is_some (slave_at state slave.station) ≡ false → is_some (slot state (2 * n + 1)) ≡ false
 out-of-line state n slave area outside = by (slot state (2 * n + 1)) refl
   where

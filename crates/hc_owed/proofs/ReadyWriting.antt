@@ -1,4 +1,4 @@
--- What is kept of the areas stays right after the sending of a write, and after a good answer to it.
+-- The state of the areas stays right after the sending of a write, and after a good answer to it.
 use Rattle.std.proofs.Common.{◌≡◌, ℕ, ◌+◌, ◌*◌, ◌/◌, ◌%◌, ◌<◌, ◌==◌, ◌&&◌, Bool, true, false, cond, List, length, refl, sym, ap, ap₂, ◌∙◌, arith}
 use Rattle.std.specs.Prelude.{◌≢◌, None, Some, Option, not, slice_get}
 use Rattle.std.proofs.lemmas.Bool.{and_parts, eqb-true}
@@ -137,7 +137,7 @@ module _ (known : Knowledge) (held : Holdings) (unplugged : ℕ → Bool) (state
       (slot state (2 * n + 1)) (slot state (2 * n + 1)) (held' slave.station (fmmu_at n)) (held slave.station (fmmu_at n)) (unplugged slave.station) (unplugged slave.station)
       (ap (owed_in known') found ∙ owed-own) (sym (owed-else (2 * n + 1) (λ same. omega (arith, same, even)))) refl (sym (held-else n slave own.area (λ same. omega (arith, same, even)))) refl
 
-  -- what is kept is as it was where the block is a sync manager's and is owed as it was
+  -- the state of the areas is as it was if the block is a sync manager's and is owed as it was
   pub unchanged : p ≡ 2 * n → lacks known block ≡ differs block.block.bytes bytes → readiness_of known held unplugged state ≡ readiness_of known' held' unplugged state
   unchanged even same =
       let found : slot state (2 * n) ≡ Some block = ap (slot state) (sym even) ∙ slot-own in

@@ -1,4 +1,4 @@
--- What is counted of each task says which tasks wait.
+-- The tasks that wait are those with a count.
 use Rattle.std.proofs.Common.{◌≡◌, ℕ, ◌<◌, ◌==◌, ◌&&◌, Bool, List, ap, ap₂, ◌∙◌}
 use Rattle.std.specs.Prelude.{not}
 use Rattle.hc_records.specs.Line.{State}

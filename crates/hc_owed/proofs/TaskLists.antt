@@ -40,7 +40,7 @@ get-bit test (suc (suc (suc (suc (suc (suc zero)))))) low = refl
 get-bit test (suc (suc (suc (suc (suc (suc (suc zero))))))) low = refl
 get-bit test (suc (suc (suc (suc (suc (suc (suc (suc n)))))))) low = absurd (omega (arith, low))
 
--- a task is in the set of those that pass a test where it passes
+-- a task is in the set of those that pass a test exactly if it passes
 pub has-where : (test : ℕ → Bool) (task : ℕ) → task < 8 → has_task task (tasks_where test) ≡ test task
 unfolding tasks_where has_task
 has-where test task low = ap (λ (n : ℕ). n == 1) (bit-at test task ∙ get-bit test task low) ∙ bit-is (test task)

@@ -1,4 +1,4 @@
--- How many registers of slaves outside the line a task waits for, counted area by area.
+-- The number of registers of slaves outside the line that a task waits for, counted area by area.
 use Rattle.std.proofs.Common.{◌≡◌, ℕ, zero, suc, ◌+◌, ◌-◌, ◌*◌, ◌/◌, ◌%◌, ◌<◌, ◌≤◌, ◌==◌, ◌&&◌, Bool, true, false, cond, List, [], ◌∷◌, ◌++◌, drop, length, map, sum_by, take, refl, sym, ap, ap₂, ◌∙◌, arith, length-append}
 use Rattle.std.specs.Prelude.{Some, Option, filter, is_some, nat_lt, not, slice_get}
 use Rattle.std.specs.Int.{bit_at}
@@ -39,7 +39,7 @@ use Rattle.hc_owed.proofs.JudgedAreas.{area_of, judged-none, judged-some}
 use Rattle.hc_owed.proofs.TaskLists.{has-where}
 use Rattle.hc_owed.proofs.Waits.{set-counted}
 
--- what an area of a slave counts: nothing in the line; outside it one where its register concerns the task
+-- the count of an area of a slave: 0 in the line; outside it 1 if its register concerns the task
 abbrev own_count : (ℕ × ℕ → Bool) → Slave → ℕ → ℕ
 own_count test slave j = cond (nat_lt j (length slave.areas)) (one (test (slave.station, 2 * j + 1))) 0
 

@@ -1,4 +1,4 @@
--- What is kept stays right after the sending of a write, and after a good answer to it.
+-- The register state stays right after the sending of a write, and after a good answer to it.
 use Rattle.std.proofs.Common.{◌≡◌, ℕ, ◌==◌, ◌&&◌, Bool, true, false, cond, List, map, refl, sym, ap, ◌∙◌, arith}
 use Rattle.std.specs.Prelude.{◌≢◌, None, Some, Option, not, option_map, slice_get}
 use Rattle.std.specs.Str.{bytes_eq}

@@ -1,4 +1,4 @@
--- What is kept of an area so that tasks are known to be ready, and which tasks it keeps waiting.
+-- The state of an area from which the ready tasks are known, and the tasks that the area keeps waiting.
 use Rattle.std.specs.Prelude.{ℕ, ◌+◌, if◌then◌else◌, Bool, true, false}
 use Rattle.hc_owed.specs.declared.area.JudgedArea.{JudgedArea}
 use Rattle.hc_owed.specs.declared.area.OwedPair.{OwedPair}
@@ -53,7 +53,8 @@ is_inside Outside = false
 is_inside Unknown = true
 is_inside Sure = true
 
--- what happens to the areas of a slave: it leaves the line, its registers are forgotten, they are cleared, or it is unplugged outside the line
+-- the events of a slave's areas: it leaves the line, its registers are forgotten, they are cleared, or it is unplugged outside
+-- the line
 
 -- a register's slave has left the line
 abbrev pub standing_left : RegisterStatus → RegisterStatus
@@ -87,18 +88,19 @@ standing_unplugged names Sure = Sure
 abbrev pub pair_forgotten : RegisterStatus → OwedPair → OwedPair
 pair_forgotten standing owed = if is_inside standing then Both else owed
 
--- what is kept of an area of a slave to which that happens
+-- an area after this event of its slave
 abbrev pub area_after : Turn → JudgedArea → JudgedArea
 area_after Left area = record { own = no_task; held = area.held; owed = Neither; standing = standing_left area.standing }
 area_after Forgotten area = record area { owed = pair_forgotten area.standing area.owed }
 area_after Cleared area = record area { held = no_task; standing = standing_cleared area.standing }
 area_after Unplugs area = record area { standing = standing_unplugged (some_task area.held) area.standing }
 
--- an area of a slave that is in the line now: where the slave came, its register is cleared
+-- an area of a slave that is in the line now: if the slave came, its register is cleared
 abbrev pub area_entered : JudgedArea → JudgedArea
 area_entered area = if is_inside area.standing then area else record area { held = no_task; standing = Sure }
 
--- a write of an area's FMMU's block was sent: the register may hold what the line configures too; nothing is sent to a slave outside the line
+-- an area once a write of its FMMU's block was sent: the register may hold what the line configures too. Nothing is sent to a
+-- slave outside the line
 abbrev pub area_written : JudgedArea → JudgedArea
 area_written area = if is_apart area.standing then area else record area { held = either_set area.own area.held }
 
@@ -118,13 +120,13 @@ sync_manager_moved owed area = record area { owed = pair_of owed (owes_fmmu area
 abbrev pub fmmu_moved : TaskSet → Bool → JudgedArea → JudgedArea
 fmmu_moved own owed area = record { own = own; held = area.held; owed = pair_of (owes_sync_manager area.owed) owed; standing = standing_come area.standing }
 
--- which tasks an area keeps waiting
+-- the tasks that an area keeps waiting
 
--- a set of tasks where it counts, else no task
+-- a set of tasks if it counts, otherwise no task
 abbrev pub set_if : Bool → TaskSet → TaskSet
 set_if counts set = if counts then set else no_task
 
--- the tasks that a register may name: every one where it is unknown
+-- the tasks that a register may name: every task if it is unknown
 abbrev pub named_set : RegisterStatus → TaskSet → TaskSet
 named_set standing held = if is_register_unknown standing then every_task else held
 
@@ -132,18 +134,18 @@ named_set standing held = if is_register_unknown standing then every_task else h
 abbrev pub sync_manager_concerns : JudgedArea → TaskSet
 sync_manager_concerns area = set_if (owes_sync_manager area.owed) area.own
 
--- those that the owed block of its FMMU concerns: the area's own, and each that its register may name
+-- the tasks that the owed block of an area's FMMU concerns: the area's own, and each that its register may name
 abbrev pub fmmu_concerns : JudgedArea → TaskSet
 fmmu_concerns area = set_if (owes_fmmu area.owed) (either_set area.own (named_set area.standing area.held))
 
--- those that its register concerns outside the line
+-- the tasks that the register of an area concerns outside the line
 abbrev pub register_concerns : JudgedArea → TaskSet
 register_concerns area = set_if (is_apart area.standing) area.held
 
--- how many of an area's blocks a task waits for
+-- the number of an area's blocks that a task waits for
 abbrev pub blocks_waited : ℕ → JudgedArea → ℕ
 blocks_waited task area = one (has_task task (sync_manager_concerns area)) + one (has_task task (fmmu_concerns area))
 
--- how many of an area's registers outside the line, one or none
+-- the number of an area's registers outside the line that a task waits for, 0 or 1
 abbrev pub registers_waited : ℕ → JudgedArea → ℕ
 registers_waited task area = one (has_task task (register_concerns area))

@@ -1,4 +1,5 @@
--- Whose register blocks an accepted edit changes, by what is kept of the areas, the slaves that leave and the blocks that move.
+-- The tasks whose register blocks an accepted edit changes, by the state of the areas, the slaves that leave and the blocks
+-- that move.
 use Rattle.std.specs.Prelude.{◌≡◌, ℕ, ◌-◌, ◌*◌, ◌/◌, ◌<◌, ◌&&◌, ◌||◌, not, Bool, List, slice_get, None, Ok}
 use Rattle.std.specs.Option.{option_map_or}
 use Rattle.std.specs.List.{list_any, range_with_len}
@@ -19,9 +20,9 @@ use Rattle.hc_owed.specs.ReadinessSteps.{IsReadinessFor}
 use Rattle.hc_owed.specs.RegisterState.{Knowledge}
 use Rattle.hc_owed.specs.TaskSets.{has_task, no_task}
 
--- what a task's blocks are changed by
+-- the changes to a task's blocks
 
--- the task that the line's block of an area's FMMU names, by the area's index; none where there is no such area
+-- the task that the line's block of an area's FMMU names, by the area's index; none if there is no such area
 abbrev pub own_at : List JudgedArea → ℕ → TaskSet
 own_at areas n = option_map_or (λ (area : JudgedArea). area.own) (slice_get areas n) no_task
 
@@ -36,7 +37,7 @@ moves_task areas task moved =
 
 -- the law
 
--- what is kept of the areas is right for the line before an accepted edit; these slaves leave with it, and these blocks move
+-- the state of the areas is right for the line before an accepted edit, with which these slaves leave and these blocks move
 pub record BlocksAreEdited (areas : List JudgedArea) (gone : Gone) (moved : List RankedBlock) : Type 0 where
   pub known : Knowledge
   pub held : Holdings

@@ -1,4 +1,4 @@
--- What will be kept of the areas once an edit is carried out and each slave that came with it is cleared.
+-- The state of the areas once an edit is carried out and each slave that came with it is cleared.
 use Rattle.std.specs.Prelude.{◌≡◌, ℕ, ◌*◌, ◌/◌, ◌<◌, ◌≤◌, ◌&&◌, not, is_some, Bool, false, if◌then◌else◌, List, [], ◌∷◌, All, AllPairs, length, slice_get, Ok}
 use Rattle.hc_records.specs.Lists.{changed_at}
 use Rattle.hc_records.specs.declared.edit.Edit.{Edit}
@@ -23,11 +23,11 @@ use Rattle.hc_owed.specs.Tally.{Tallies}
 abbrev pub held_cleared : State → State → Holdings → Holdings
 held_cleared old new held station number = if not (is_some (slave_at old station)) && is_some (slave_at new station) then cleared_register else held station number
 
--- an area once a moved block of it is there, and its slave, where it came, is cleared; the register state is that before the edit
+-- an area once a moved block of it is there, and its slave, if it came, is cleared; the register state is that before the edit
 abbrev pub area_coming : RegisterState → RankedBlock → JudgedArea → JudgedArea
 area_coming owed moved area = block_moved (owed_where_moved moved owed) moved (area_entered area)
 
--- moved blocks, one after another
+-- the areas once moved blocks are there, one after another
 abbrev pub areas_coming : RegisterState → List RankedBlock → List JudgedArea → List JudgedArea
 areas_coming owed [] areas = areas
 areas_coming owed (moved ∷ rest) areas = areas_coming owed rest (changed_at (block_place moved / 2) (area_coming owed moved) areas)
@@ -43,7 +43,8 @@ pub record CanTallyMoved (areas : List JudgedArea) (tally : Tally) (owed : Regis
   pub same : All (λ block. slice_get counted (block_place block / 2) ≡ slice_get areas (block_place block / 2)) moved
   pub ascend : AllPairs (λ a b. block_place a < block_place b) moved
 
--- what is kept of the areas and of the blocks is right for a project's state, where an edit that declares nothing can be carried out; the lines differ by the slaves that leave and the moved blocks
+-- the state of the areas and of the blocks is right for a project's state, in which an edit that declares nothing can be
+-- carried out; the lines differ by the slaves that leave and the moved blocks
 pub record ReadinessWillBeEdited (areas : List JudgedArea) (owed : RegisterState) (gone : Gone) (moved : List RankedBlock) : Type 0 where
   pub known : Knowledge
   pub held : Holdings
@@ -58,6 +59,7 @@ pub record ReadinessWillBeEdited (areas : List JudgedArea) (owed : RegisterState
   pub blocks : owed ≡ register_state_of known old
   pub ascend : AllPairs (λ a b. block_place a < block_place b) moved
 
--- what is kept of the areas once it is carried out and each slave that came is cleared: nothing is known of its blocks, and its registers are zeros
+-- the state of the areas once an edit is carried out and each slave that came is cleared: nothing is known of its blocks, and
+-- its registers are zeros
 abbrev pub areas_cleared : Knowledge → Holdings → (ℕ → Bool) → State → State → List JudgedArea
 areas_cleared known held unplugged old new = readiness_of (known_over old known) (held_cleared old new held) (unplugged_over new unplugged) new

@@ -2,21 +2,21 @@
 use Rattle.std.specs.Prelude.{◌≡◌, ℕ, zero, suc, ◌+◌, ◌<◌, ◌≤◌, ◌/◌, ◌%◌, ◌==◌, ◌≢◌, Bool, true, false, if◌then◌else◌, List, [], ◌∷◌, length, slice_index, Option, Some, None}
 use Rattle.std.specs.Int.{bit_at}
 
--- flags, and for how many there's room
+-- flags, and the number of flags that there is room for
 pub record Flags : Type 0 where
   pub list : List Bool
   pub room : ℕ
 
--- what a flag counts, and how many of them are set
+-- the count of a flag: 1 if it is set, otherwise 0
 abbrev pub one : Bool → ℕ
 one flag = if flag then 1 else 0
 
--- how many of the flags are set
+-- the number of flags that are set
 abbrev pub set_count : List Bool → ℕ
 set_count [] = 0
 set_count (flag ∷ flags) = one flag + set_count flags
 
--- of flags that are counted from a number on, the number of the one that is set after so many others that are; none where fewer are set
+-- among flags that are numbered from `at` on, the number of the set one with an index, from 0; none if fewer are set
 abbrev pub nth_set : ℕ → ℕ → List Bool → Option ℕ
 nth_set index at [] = None
 nth_set index at (false ∷ flags) = nth_set index (at + 1) flags

@@ -1,4 +1,4 @@
--- What is kept is right for what the slaves are known to have: what it gives, and what writes and edits make of it.
+-- The register state that is right for known bytes: its look-ups, and the steps of writes and edits.
 use Rattle.std.specs.Prelude.{◌≡◌, ℕ, ◌+◌, ◌≤◌, ◌==◌, ◌&&◌, Bool, false, true, if◌then◌else◌, is_some, List, [], ◌∷◌, drop, filter, slice_get, MatchOption, Option, Some, None, Ok}
 use Rattle.hc_records.specs.declared.edit.Edit.{Edit}
 use Rattle.hc_records.specs.Edits.{declares, edited, slave_at}
@@ -14,7 +14,7 @@ use Rattle.hc_plan.specs.Reports.{found_name}
 use Rattle.hc_owed.specs.declared.owed.OwedBlock.{OwedBlock}
 use Rattle.hc_owed.specs.RegisterState.{RegisterState, Knowledge, register_state_of, lacks}
 
--- what is kept is right for a project's state, of whose slaves these bytes are known
+-- a register state is right for a project's state and for the known bytes of its slaves
 pub record IsRightFor (known : Knowledge) (state : State) (register_state : RegisterState) : Type 0 where
   pub right : register_state ≡ register_state_of known state
   pub project : lowest_fault (groups_of state.groups) ≡ None
@@ -34,7 +34,7 @@ abbrev pub GivesFirstOwed : State → RegisterState → Option OwedBlock → Typ
 GivesFirstOwed plan register_state found =
     (known : Knowledge) (state : State) → plan ≡ state → IsRightFor known state register_state → MatchOption found (lacking_blocks known state ≡ []) (IsFirstOwed known state)
 
--- those of them that are at a place or after it; from place 0 on that is all of them
+-- the lacking blocks at a place or after it; from place 0 on these are all
 abbrev pub owed_from : Knowledge → State → ℕ → List LineBlock
 owed_from known state place = filter (lacks known) (standing (drop place (places state)))
 
@@ -54,7 +54,7 @@ pub record IsOwedAt (known : Knowledge) (state : State) (index : ℕ) (found : O
   pub is_placed : slice_get (places state) found.place ≡ Some (Some found.block)
   pub is : slice_get (lacking_blocks known state) index ≡ Some found.block
 
--- the owed block with an index, or none where fewer are owed
+-- the owed block with an index, or none if fewer are owed
 abbrev pub GivesOwedAt : Knowledge → State → ℕ → Option OwedBlock → Type 0
 GivesOwedAt known state index found = MatchOption found (slice_get (lacking_blocks known state) index ≡ None) (IsOwedAt known state index)
 
@@ -62,15 +62,15 @@ GivesOwedAt known state index found = MatchOption found (slice_get (lacking_bloc
 abbrev pub same_name : ℕ × ℕ → ℕ × ℕ → Bool
 same_name a b = (a.0 == b.0) && (a.1 == b.1)
 
--- other bytes known of one block
+-- the knowledge with other bytes of one block
 abbrev pub known_with : ℕ × ℕ → Option (List ℕ) → Knowledge → Knowledge
 known_with name bytes known station number = if same_name name (station, number) then bytes else known station number
 
--- nothing known any more of the blocks of the slave with a station address
+-- the knowledge without the blocks of the slave with a station address
 abbrev pub known_without : ℕ → Knowledge → Knowledge
 known_without station known other number = if other == station then None else known other number
 
--- what is kept is right for a project's state, in whose line a block is at a place
+-- a register state is right for a project's state, and a block of its line is at a place
 pub record IsRightAt (register_state : RegisterState) (n : ℕ) (known : Knowledge) (state : State) (block : LineBlock) : Type 0 where
   pub right : register_state ≡ register_state_of known state
   pub project : lowest_fault (groups_of state.groups) ≡ None
@@ -81,12 +81,12 @@ abbrev pub GivesBlockAt : State → RegisterState → ℕ → Option OwedBlock �
 GivesBlockAt plan register_state place found =
     (known : Knowledge) (state : State) (block : LineBlock) → plan ≡ state → IsRightAt register_state place known state block → found ≡ Some (record { place = place; block = block })
 
--- that block is lacking
+-- the block of the line at a place is lacking
 pub record IsLackingAt (register_state : RegisterState) (n : ℕ) (known : Knowledge) (state : State) (block : LineBlock) : Type 0 where
   pub at : IsRightAt register_state n known state block
   pub lacking : lacks known block ≡ true
 
--- what is kept of a line where other bytes are known of one block
+-- the register state of a line with other known bytes of one block
 abbrev pub with_known : Knowledge → State → LineBlock → Option (List ℕ) → RegisterState
 with_known known state block bytes = register_state_of (known_with (found_name block) bytes known) state
 
@@ -94,17 +94,17 @@ with_known known state block bytes = register_state_of (known_with (found_name b
 abbrev pub as_written : Knowledge → State → LineBlock → RegisterState
 as_written known state block = with_known known state block (Some block.block.bytes)
 
--- the slave of the block at a place has the bytes that a plan's line configures
+-- after the step the slave of the block at a place is known to have the bytes that a plan's line configures
 abbrev pub ConfirmsBlock : State → ℕ → RegisterState → RegisterState → Type 0
 ConfirmsBlock plan place old new =
     (known : Knowledge) (state : State) (found : LineBlock) → plan ≡ state → IsRightAt old place known state found → new ≡ as_written known state found
 
--- after an edit what was known of the slaves of the old line is known, and nothing of others
+-- the knowledge after an edit: that of the slaves of the old line, and nothing of others
 abbrev pub known_over : State → Knowledge → Knowledge
 known_over old known station number = if is_some (slave_at old station) then known station number else None
 
--- what is kept is right for a project's state, where an edit that declares nothing was accepted; the lines differ by the slaves that left and the moved
--- blocks
+-- a register state is right for a project's state, in which an edit that declares nothing was accepted; the lines differ by the
+-- slaves that left and the moved blocks
 pub record RegistersAreEdited (register_state : RegisterState) (gone : Gone) (moved : List RankedBlock) : Type 0 where
   pub known : Knowledge
   pub old : State

@@ -1,4 +1,5 @@
--- Which tasks can be sent while blocks are owed, by what is known of the line's blocks and what the FMMUs' registers may hold, and what is kept of each area for it.
+-- The tasks that can be sent while blocks are owed, by the known bytes of the line's blocks and by the bytes that the FMMUs'
+-- registers may hold; and the state of each area for it.
 use Rattle.std.specs.Prelude.{ℕ, ◌+◌, ◌*◌, ◌/◌, ◌%◌, ◌==◌, ◌&&◌, ◌||◌, not, nat_lt, is_some, Bool, true, false, if◌then◌else◌, List, filter, length, map, slice_get, slice_index_or, Option, Some, None, option_and_then}
 use Rattle.std.specs.Option.{option_map_or}
 use Rattle.std.specs.List.{range_with_len}
@@ -19,15 +20,15 @@ use Rattle.hc_owed.specs.Laws.{lacking_blocks}
 use Rattle.hc_owed.specs.RegisterState.{Knowledge, owed_in}
 use Rattle.hc_owed.specs.TaskSets.{no_task, some_task, tasks_where}
 
--- what registers may hold, by the station address of the slave and the number of the block
+-- the bytes that registers may hold, by the station address of the slave and the number of the block
 abbrev pub Holdings : Type 0
 Holdings = ℕ → ℕ → MayHold
 
--- every register is unknown, and has no contents: so a project is opened
+-- every register is unknown and has no contents, as at the opening of a project
 abbrev pub unknown_registers : Holdings
 unknown_registers station number = unknown_register
 
--- no slave is unplugged then
+-- no slave is unplugged, as at the opening of a project
 abbrev pub none_unplugged : ℕ → Bool
 none_unplugged station = false
 
@@ -49,11 +50,11 @@ counts_outside held unplugged task register = not (unplugged register.0) && name
 abbrev pub registers_waited_for : Holdings → (ℕ → Bool) → State → ℕ → List (ℕ × ℕ)
 registers_waited_for held unplugged state task = filter (counts_outside held unplugged task) (registers_outside state)
 
--- a task is ready where it waits for nothing
+-- a task is ready if it waits for nothing
 abbrev pub may_be_sent : Knowledge → Holdings → (ℕ → Bool) → State → ℕ → Bool
 may_be_sent known held unplugged state task = (length (blocks_waited_for known held state task) == 0) && (length (registers_waited_for held unplugged state task) == 0)
 
--- what is kept
+-- the state of the areas
 
 -- the block at a place, if there is one
 abbrev pub slot : State → ℕ → Option LineBlock
@@ -83,7 +84,7 @@ standing_of true false apart = Sure
 standing_of false unknown true = Unplugged
 standing_of false unknown false = Outside
 
--- what is kept of an area with these two blocks in the line, or without a block
+-- the state of an area with these two blocks in the line, or without a block
 abbrev pub kept_area : Knowledge → Option LineBlock → Option LineBlock → MayHold → Bool → JudgedArea
 kept_area known sync_manager fmmu held unplugged = record {
   own = own_set fmmu;
@@ -92,15 +93,15 @@ kept_area known sync_manager fmmu held unplugged = record {
   standing = standing_of (is_some fmmu) held.unknown (unplugged && some_task (held_set held));
 }
 
--- what is kept where a slave has no such area
+-- the state of an area that a slave does not have
 abbrev pub no_area : JudgedArea
 no_area = record { own = no_task; held = no_task; owed = Neither; standing = Outside }
 
--- what is kept of the area with an index
+-- the state of the area with an index
 abbrev pub judged_at : Knowledge → Holdings → (ℕ → Bool) → State → ℕ → JudgedArea
 judged_at known held unplugged state n =
     option_map_or (λ slave. kept_area known (slot state (2 * n)) (slot state (2 * n + 1)) (held slave.station (fmmu_at n)) (unplugged slave.station)) (area_slave state n) no_area
 
--- what is kept of all areas of the declared slaves
+-- the state of all areas of the declared slaves
 abbrev pub readiness_of : Knowledge → Holdings → (ℕ → Bool) → State → List JudgedArea
 readiness_of known held unplugged state = map (judged_at known held unplugged state) (range_with_len 0 (8 * length (stations state)))

@@ -1,4 +1,5 @@
--- What the steps and the look-ups of a readiness are, for whatever is known of the blocks, whatever the registers may hold and whichever slaves are unplugged.
+-- The laws of the steps and the look-ups of a readiness, for any known bytes of the blocks, any bytes that the registers may
+-- hold, and any unplugged slaves.
 use Rattle.std.specs.Prelude.{◌≡◌, ℕ, is_some, not, Bool, true, false, List, length, slice_get, MatchOption, Option, None, Some}
 use Rattle.hc_records.specs.declared.edit.Edit.TheVariants.{Declare}
 use Rattle.hc_records.specs.Edits.{changed, slave_at}
@@ -26,7 +27,7 @@ SendsAt old new place =
     (known : Knowledge) (held : Holdings) (unplugged : ℕ → Bool) (state : State) (block : LineBlock) → IsReadinessAt old place known held unplugged state block → lacks known block ≡ true
     → new ≡ readiness_of (known_with (found_name block) None known) (held_with (found_name block) (with_contents block.block.bytes) held) unplugged state
 
--- it was answered well: its bytes are known, and its register holds them alone
+-- the write of the block at a place was answered well: its bytes are known, and its register holds them alone
 abbrev pub ConfirmsAt : List JudgedArea → List JudgedArea → ℕ → Type 0
 ConfirmsAt old new place =
     (known : Knowledge) (held : Holdings) (unplugged : ℕ → Bool) (state : State) (block : LineBlock) → IsReadinessAt old place known held unplugged state block
@@ -38,13 +39,13 @@ ForgetsSlave old new index =
     (known : Knowledge) (held : Holdings) (unplugged : ℕ → Bool) (state : State) (station : ℕ) → IsReadinessFor known held unplugged state old → slice_get (stations state) index ≡ Some station
     → new ≡ readiness_of (known_without station known) held unplugged state
 
--- its registers are cleared
+-- the registers of the declared slave with an index are cleared
 abbrev pub ClearsSlave : List JudgedArea → List JudgedArea → ℕ → Type 0
 ClearsSlave old new index =
     (known : Knowledge) (held : Holdings) (unplugged : ℕ → Bool) (state : State) (station : ℕ) → IsReadinessFor known held unplugged state old → slice_get (stations state) index ≡ Some station
     → new ≡ readiness_of known (held_without station held) unplugged state
 
--- it is outside the line, and is unplugged
+-- the declared slave with an index is outside the line, and is unplugged
 abbrev pub UnplugsSlave : List JudgedArea → List JudgedArea → ℕ → Type 0
 UnplugsSlave old new index =
     (known : Knowledge) (held : Holdings) (unplugged : ℕ → Bool) (state : State) (station : ℕ) → IsReadinessFor known held unplugged state old → slice_get (stations state) index ≡ Some station
@@ -67,12 +68,12 @@ abbrev pub WaitsForBlocks : List JudgedArea → ℕ → ℕ → Type 0
 WaitsForBlocks areas task count =
     (known : Knowledge) (held : Holdings) (unplugged : ℕ → Bool) (state : State) → IsReadinessFor known held unplugged state areas → count ≡ length (blocks_waited_for known held state task)
 
--- it waits for so many registers of slaves outside the line
+-- a task waits for so many registers of slaves outside the line
 abbrev pub WaitsForRegisters : List JudgedArea → ℕ → ℕ → Type 0
 WaitsForRegisters areas task count =
     (known : Knowledge) (held : Holdings) (unplugged : ℕ → Bool) (state : State) → IsReadinessFor known held unplugged state areas → count ≡ length (registers_waited_for held unplugged state task)
 
--- it is ready or not
+-- a task is ready or not
 abbrev pub TellsReady : List JudgedArea → ℕ → Bool → Type 0
 TellsReady areas task ready =
     (known : Knowledge) (held : Holdings) (unplugged : ℕ → Bool) (state : State) → IsReadinessFor known held unplugged state areas → ready ≡ may_be_sent known held unplugged state task
@@ -92,7 +93,7 @@ abbrev pub ForetellsWaiting : List JudgedArea → RegisterState → Gone → Lis
 ForetellsWaiting areas owed gone moved set =
     (is : ReadinessWillBeEdited areas owed gone moved) → AreWaiting (areas_cleared is.known is.held is.unplugged is.old is.new) set
 
--- they are the tasks that will wait once a group is declared, too
+-- these are the tasks that will wait once a group is declared
 abbrev pub ForetellsDeclared : List JudgedArea → TaskSet → Type 0
 ForetellsDeclared areas set =
     (room : ReadinessRoom) (can : ReadinessCanAdmit areas room) → AreWaiting (areas_cleared can.known can.held can.unplugged can.old (changed can.old (Declare can.group))) set

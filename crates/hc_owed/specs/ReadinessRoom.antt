@@ -1,4 +1,4 @@
--- A declared group's way into what is kept of the areas.
+-- The memory for the areas of a declared group.
 use Rattle.std.specs.Prelude.{◌≡◌, ℕ, ◌+◌, ◌*◌, ◌≤◌, ◌++◌, [], ◌∷◌, Bool, Contains, List, None, length}
 use Rattle.hc_records.specs.declared.records.Group.{Group}
 use Rattle.hc_records.specs.declared.records.Slave.{Slave}
@@ -16,7 +16,8 @@ pub record IsReadinessRoomFor (count slaves : ℕ) (room : ReadinessRoom) : Type
   pub areas : count + 8 * slaves ≤ room.areas
   pub slaves_are : room.slaves ≡ slaves
 
--- what is kept of the areas is right for a project's state, where a group can be declared; no register of the group's slaves has contents; and there is room for their areas
+-- the state of the areas is right for a project's state, in which a group can be declared; no register of the group's slaves
+-- has contents; and there is room for their areas
 pub record ReadinessCanAdmit (areas : List JudgedArea) (room : ReadinessRoom) : Type 0 where
   pub known : Knowledge
   pub held : Holdings

@@ -1,4 +1,4 @@
--- The steps of what is kept of the areas: what writes, their answers, edits, and what is said of a slave make of it.
+-- The steps of the areas' state: writes, their answers, edits, and events of a slave.
 use Rattle.std.specs.Prelude.{◌≡◌, ℕ, zero, suc, ◌+◌, ◌-◌, ◌*◌, ◌/◌, ◌==◌, ◌&&◌, ◌||◌, not, is_some, Bool, true, false, if◌then◌else◌, List, [], ◌∷◌, slice_get, unwrap_or, None, Some, Ok}
 use Rattle.hc_records.specs.Lists.{changed_at}
 use Rattle.hc_records.specs.declared.edit.Edit.{Edit}
@@ -19,9 +19,9 @@ use Rattle.hc_owed.specs.Laws.{known_over, same_name}
 use Rattle.hc_owed.specs.Readiness.{Holdings, own_set, readiness_of}
 use Rattle.hc_owed.specs.RegisterState.{Knowledge, RegisterState, register_state_of}
 
--- what registers may hold
+-- the bytes that registers may hold
 
--- what one register may hold changes
+-- the holdings with a change to one register
 abbrev pub held_with : ℕ × ℕ → (MayHold → MayHold) → Holdings → Holdings
 held_with name change held station number = if same_name name (station, number) then change (held station number) else held station number
 
@@ -49,9 +49,10 @@ unplugged_over new unplugged station = unplugged station && not (is_some (slave_
 abbrev pub unplugged_with : ℕ → (ℕ → Bool) → ℕ → Bool
 unplugged_with station unplugged other = (other == station) || unplugged other
 
--- what is kept
+-- the state of the areas
 
--- what is kept of the areas is right for a project's state, for these known bytes, for what the registers may hold, and for these unplugged slaves: none of them in the line
+-- the state of the areas is right for a project's state, for these known bytes, for the bytes that the registers may hold, and
+-- for these unplugged slaves, none of them in the line
 pub record IsReadinessFor (known : Knowledge) (held : Holdings) (unplugged : ℕ → Bool) (state : State) (areas : List JudgedArea) : Type 0 where
   pub right : areas ≡ readiness_of known held unplugged state
   pub project : lowest_fault (groups_of state.groups) ≡ None
@@ -69,7 +70,7 @@ abbrev pub changed_from : {X : Type 0} → (X → X) → ℕ → ℕ → List X 
 changed_from change from zero xs = xs
 changed_from change from (suc count) xs = changed_at (from + count) change (changed_from change from count xs)
 
--- an area after a write of its block with a number was sent, and after that was answered well
+-- an area after a write of its block with a number was sent
 abbrev pub area_sent : ℕ → JudgedArea → JudgedArea
 area_sent number area = if is_fmmu number then area_written area else area
 
@@ -81,11 +82,11 @@ area_confirmed number area = if is_fmmu number then fmmu_confirmed area else syn
 abbrev pub block_moved : Bool → RankedBlock → JudgedArea → JudgedArea
 block_moved owes moved area = if is_fmmu (block_place moved) then fmmu_moved (own_set (Some moved.found)) owes area else sync_manager_moved owes area
 
--- the same where flags say which blocks are owed after the edit
+-- an area after one of its blocks moved, with flags that tell which blocks are owed after the edit
 abbrev pub area_moved : List Bool → RankedBlock → JudgedArea → JudgedArea
 area_moved owed moved area = block_moved (unwrap_or (slice_get owed (block_place moved)) false) moved area
 
--- moved blocks, one after another
+-- the areas after moved blocks, one after another
 abbrev pub areas_moved : List Bool → List RankedBlock → List JudgedArea → List JudgedArea
 areas_moved owed [] areas = areas
 areas_moved owed (moved ∷ rest) areas = areas_moved owed rest (changed_at (block_place moved / 2) (area_moved owed moved) areas)

@@ -1,4 +1,4 @@
--- A declared group's way into what is kept: the memory that it takes, and the station addresses of its slaves.
+-- The memory for a declared group's blocks, and the station addresses of its slaves.
 use Rattle.std.specs.Prelude.{◌≡◌, ℕ, ◌+◌, ◌*◌, ◌≤◌, ◌++◌, [], ◌∷◌, List, None, length, map, replicate, false}
 use Rattle.hc_records.specs.declared.records.Group.{Group}
 use Rattle.hc_records.specs.declared.records.Slave.{Slave}
@@ -8,8 +8,8 @@ use Rattle.hc_records.specs.Project.{lowest_fault}
 use Rattle.hc_registers.specs.RankPlaces.{stations}
 use Rattle.hc_owed.specs.RegisterState.{RegisterState, Knowledge, register_state_of}
 
--- for how many places' known bytes there is memory, for how many words of 64 flags, and for how many station addresses; and the station addresses of the slaves that
--- are added
+-- room for the known bytes of so many places, for so many words of 64 flags, and for so many station addresses; and the station
+-- addresses of the slaves that are added
 pub record OwedRoom : Type 0 where
   pub known : ℕ
   pub owed : ℕ
@@ -23,7 +23,7 @@ pub record IsOwedRoomFor (count : ℕ) (slaves : List Slave) (room : OwedRoom) :
   pub stations : count + length slaves ≤ room.stations
   pub added : room.added ≡ map (λ slave. slave.station) slaves
 
--- what is kept, with empty places of slaves with these station addresses after the others
+-- a register state with empty places of slaves with these station addresses after the others
 abbrev pub registers_widened : List ℕ → RegisterState → RegisterState
 registers_widened added register_state = record {
   known = register_state.known ++ replicate (16 * length added) None;
@@ -31,7 +31,7 @@ registers_widened added register_state = record {
   stations = register_state.stations ++ added;
 }
 
--- what is kept is right for a project's state, where a group can be declared, and there is room for its slaves
+-- a register state is right for a project's state, in which a group can be declared, and there is room for its slaves
 pub record RegistersCanAdmit (register_state : RegisterState) (room : OwedRoom) : Type 0 where
   pub known : Knowledge
   pub old : State

@@ -1,4 +1,4 @@
--- The steps of what is kept, place by place.
+-- The steps of a register state, place by place.
 use Rattle.std.specs.Prelude.{ℕ, zero, suc, ◌*◌, ◌/◌, ◌==◌, ◌||◌, is_some, Bool, false, if◌then◌else◌, List, [], ◌∷◌, slice_get, unwrap_or, Option, None}
 use Rattle.std.specs.Option.{option_map_or}
 use Rattle.hc_records.specs.Lists.{changed_at}
@@ -8,11 +8,11 @@ use Rattle.hc_registers.specs.RankDifferences.{block_place, first_gone}
 use Rattle.hc_plan.specs.RegisterBlocks.{replaced_from}
 use Rattle.hc_owed.specs.RegisterState.{RegisterState, differs}
 
--- what is known at a place, and whether it's owed there
+-- a register state with these known bytes at a place
 abbrev pub learnt : ℕ → Option (List ℕ) → RegisterState → RegisterState
 learnt n known register_state = record register_state { known = changed_at n (λ _. known) register_state.known }
 
--- a place that is owed or not as given
+-- a register state in which a place is owed or not as given
 abbrev pub place_judged : ℕ → Bool → RegisterState → RegisterState
 place_judged n owed register_state = record register_state { owed = changed_at n (λ _. owed) register_state.owed }
 
@@ -23,7 +23,7 @@ places_emptied from count register_state = record register_state {
   owed = replaced_from from count false register_state.owed;
 }
 
--- a place has a block where that is owed or known
+-- a place has a block if it is owed or known
 abbrev pub has_block : RegisterState → ℕ → Bool
 has_block register_state n = unwrap_or (slice_get register_state.owed n) false || is_some (unwrap_or (slice_get register_state.known n) None)
 
@@ -35,11 +35,11 @@ forgotten_at n register_state = place_judged n (has_block register_state n) (lea
 abbrev pub place_is_of : ℕ → List ℕ → ℕ → Bool
 place_is_of station stations n = option_map_or (λ other. other == station) (slice_get stations (n / 16)) false
 
--- where it is, it is forgotten
+-- a place is forgotten if it is of the slave with a station address
 abbrev pub forgotten_of : ℕ → ℕ → RegisterState → RegisterState
 forgotten_of station n register_state = if place_is_of station register_state.stations n then forgotten_at n register_state else register_state
 
--- so it is at so many places from the first one on
+-- so many places from the first one on are forgotten, if they are of that slave
 abbrev pub forgotten_below : ℕ → ℕ → RegisterState → RegisterState
 forgotten_below station zero register_state = register_state
 forgotten_below station (suc n) register_state = forgotten_of station n (forgotten_below station n register_state)
@@ -48,15 +48,15 @@ forgotten_below station (suc n) register_state = forgotten_of station n (forgott
 abbrev pub cleared : Gone → RegisterState → RegisterState
 cleared gone register_state = places_emptied (first_gone gone) (16 * gone.slaves) register_state
 
--- a moved block is owed where other bytes are known at its place, or none
+-- a moved block is owed if other bytes are known at its place, or none
 abbrev pub owed_where_moved : RankedBlock → RegisterState → Bool
 owed_where_moved moved register_state = differs moved.found.block.bytes (unwrap_or (slice_get register_state.known (block_place moved)) None)
 
--- a moved block is compared with what is known at its place
+-- a moved block is compared with the bytes that are known at its place
 abbrev pub compared : RankedBlock → RegisterState → RegisterState
 compared moved register_state = place_judged (block_place moved) (owed_where_moved moved register_state) register_state
 
--- moved blocks, one after another
+-- moved blocks are compared, one after another
 abbrev pub compared_all : List RankedBlock → RegisterState → RegisterState
 compared_all [] register_state = register_state
 compared_all (moved ∷ rest) register_state = compared_all rest (compared moved register_state)

@@ -1,4 +1,4 @@
--- What is counted of each task over areas, and an area that is counted in place of another.
+-- The counts of each task over areas, and an area that is counted in place of another.
 use Rattle.std.specs.Prelude.{◌≡◌, ℕ, ◌+◌, ◌==◌, ◌&&◌, ◌<◌, ◌≤◌, Bool, List, slice_index}
 use Rattle.hc_records.specs.declared.limits.TheConstants.{TASKS}
 use Rattle.hc_owed.specs.declared.area.JudgedArea.{JudgedArea}
@@ -10,7 +10,7 @@ use Rattle.hc_owed.specs.Waiting.{AreCounted}
 abbrev pub Tallies : List JudgedArea → Tally → Type 0
 Tallies areas tally = AreCounted blocks_waited areas tally.blocks × AreCounted registers_waited areas tally.registers
 
--- what an area counts can be taken out of counts, and another area can be counted
+-- an area can be taken out of counts, and another area can be counted
 pub record CanPut (tally : Tally) (was : JudgedArea) : Type 0 where
   pub blocks : (task : ℕ) → task < TASKS → blocks_waited task was ≤ slice_index tally.blocks task
   pub registers : (task : ℕ) → task < TASKS → registers_waited task was ≤ slice_index tally.registers task

@@ -1,4 +1,4 @@
--- How many blocks and registers a task waits for, counted area by area.
+-- The numbers of blocks and registers that a task waits for, counted area by area.
 use Rattle.std.specs.Prelude.{◌≡◌, ◌≤◌, ℕ, ◌+◌, ◌<◌, List, slice_index, sum_by}
 use Rattle.hc_records.specs.declared.limits.TheConstants.{TASKS}
 use Rattle.hc_owed.specs.declared.area.JudgedArea.{JudgedArea}
@@ -6,7 +6,7 @@ use Rattle.hc_owed.specs.declared.task_set.TaskSet.{TaskSet}
 use Rattle.hc_owed.specs.Flags.{one}
 use Rattle.hc_owed.specs.TaskSets.{has_task}
 
--- of each task a number is the sum over the areas
+-- for each task a number is the sum over the areas
 abbrev pub AreCounted : (ℕ → JudgedArea → ℕ) → List JudgedArea → List ℕ → Type 0
 AreCounted waited areas counts = (task : ℕ) → task < TASKS → slice_index counts task ≡ sum_by (waited task) areas
 
@@ -14,7 +14,7 @@ AreCounted waited areas counts = (task : ℕ) → task < TASKS → slice_index c
 abbrev pub CanTakeOut : List ℕ → TaskSet → Type 0
 CanTakeOut counts set = (task : ℕ) → task < TASKS → one (has_task task set) ≤ slice_index counts task
 
--- they were taken out
+-- the tasks of a set were taken out of counts
 abbrev pub TakesOut : List ℕ → List ℕ → TaskSet → Type 0
 TakesOut old new set = (task : ℕ) → task < TASKS → slice_index new task + one (has_task task set) ≡ slice_index old task
 

@@ -1,15 +1,16 @@
-//! `JudgedArea`: what is kept of an area so that tasks are known to be ready.
+//! `JudgedArea`: the state of an area, from which the ready tasks are known.
 ghost use Rattle.std.specs.Prelude.{◌≡◌};
 ghost use Rattle.hc_owed.specs.Areas.{set_if};
 
 use crate::task_set::TaskSet;
 
-/// What the FMMU register of an area is: its slave is in the line or not, on the wire or not, and it is unknown or not.
+/// The status of an area's FMMU register: its slave is in the line or not, on the wire or not, and the content is unknown or
+/// not.
 #[derive(Clone, Copy, Debug)]
 pub enum RegisterStatus {
     /// The slave is outside the line or has no such area: the register holds zeros or one of its contents.
     Outside,
-    /// The slave is outside the line and off the wire.
+    /// The slave is outside the line and off the wire, and the contents of the register name a task.
     Unplugged,
     /// The slave is in the line, and the register may hold anything.
     Unknown,
@@ -17,7 +18,7 @@ pub enum RegisterStatus {
     Sure,
 }
 
-/// What happens to all areas of a slave.
+/// An event that concerns all areas of a slave.
 #[derive(Clone, Copy, Debug)]
 pub enum Turn {
     /// The slave leaves the line.
@@ -30,7 +31,7 @@ pub enum Turn {
     Unplugs,
 }
 
-/// Which of an area's two blocks are owed.
+/// The owed ones among an area's two blocks.
 #[derive(Clone, Copy, Debug)]
 pub enum OwedPair {
     /// No block.
@@ -43,14 +44,14 @@ pub enum OwedPair {
     Both,
 }
 
-/// What is kept of an area of a declared slave.
+/// The state of an area of a declared slave.
 #[derive(Clone, Copy, Debug)]
 pub struct JudgedArea {
     /// The task that the line's block of its FMMU names, if it names one.
     pub own: TaskSet,
     /// The tasks that the contents of its FMMU's register name.
     pub held: TaskSet,
-    /// Which of its blocks are owed.
+    /// Its owed blocks.
     pub owed: OwedPair,
     /// The status of its FMMU's register.
     pub standing: RegisterStatus,
@@ -60,7 +61,7 @@ impl OwedPair {
     ghost use Rattle.std.specs.Prelude.{◌≡◌};
     ghost use Rattle.hc_owed.specs.Areas.{owes_fmmu, owes_sync_manager, pair_of};
 
-    /// Which of these two blocks are owed.
+    /// Returns the pair of these owed blocks: the sync manager's if the first is true, the FMMU's if the second is true.
     pub fn of(sync_manager: bool, fmmu: bool) -> OwedPair
         ensures { result ≡ pair_of sync_manager fmmu }
     {
@@ -72,7 +73,7 @@ impl OwedPair {
         }
     }
 
-    /// Whether the block of the sync manager is owed.
+    /// True if the block of the sync manager is owed.
     pub fn sync_manager(self) -> bool
         ensures { result ≡ owes_sync_manager self }
     {
@@ -82,7 +83,7 @@ impl OwedPair {
         }
     }
 
-    /// Whether the block of the FMMU is owed.
+    /// True if the block of the FMMU is owed.
     pub fn fmmu(self) -> bool
         ensures { result ≡ owes_fmmu self }
     {
@@ -129,8 +130,7 @@ impl RegisterStatus {
         }
     }
 
-    /// The status once its slave, if outside the line, is off the wire; `names` says whether the register's contents
-    /// name a task.
+    /// The status once its slave, if outside the line, is off the wire. `names` is true if the register's contents name a task.
     fn unplugged(self, names: bool) -> RegisterStatus
         ensures { result ≡ standing_unplugged names self }
     {
@@ -140,7 +140,7 @@ impl RegisterStatus {
         }
     }
 
-    /// Whether the slave is in the line and the register may hold anything.
+    /// True if the slave is in the line and the register may hold anything.
     pub fn is_unknown(self) -> bool
         ensures { result ≡ is_register_unknown self }
     {
@@ -150,7 +150,7 @@ impl RegisterStatus {
         }
     }
 
-    /// Whether the slave is outside the line and may be on the wire.
+    /// True if the status is `Outside`: the slave is outside the line, and it may be on the wire or its register names no task.
     pub fn is_apart(self) -> bool
         ensures { result ≡ is_apart self }
     {
@@ -160,7 +160,7 @@ impl RegisterStatus {
         }
     }
 
-    /// Whether the slave is in the line.
+    /// True if the slave is in the line.
     pub fn is_inside(self) -> bool
         ensures { result ≡ is_inside self }
     {
@@ -171,7 +171,7 @@ impl RegisterStatus {
     }
 }
 
-/// A set of tasks where it counts, else no task.
+/// Returns a set of tasks if it counts, otherwise no task.
 fn set_if(counts: bool, set: TaskSet) -> TaskSet
     ensures { result ≡ set_if counts set }
 {
@@ -183,7 +183,8 @@ impl JudgedArea {
     ghost use Rattle.hc_owed.specs.Readiness.{no_area};
     ghost use Rattle.hc_owed.specs.Areas.{area_after, area_entered, area_written, fmmu_concerns, fmmu_confirmed, fmmu_moved, named_set, pair_forgotten, register_concerns, sync_manager_concerns, sync_manager_confirmed, sync_manager_moved};
 
-    /// What is kept of an area whose register names no task and whose slave is outside the line, or where there is no area.
+    /// Returns the state of an area whose register names no task and whose slave is outside the line. It also stands for a
+    /// missing area.
     pub fn outside() -> JudgedArea
         ensures { result ≡ no_area }
     {
@@ -238,7 +239,7 @@ impl JudgedArea {
         }
     }
 
-    /// The area once this happened to its slave.
+    /// The area after this event of its slave.
     pub fn after(self, turn: Turn) -> JudgedArea
         ensures { result ≡ area_after turn self }
     {
@@ -279,7 +280,8 @@ impl JudgedArea {
         self
     }
 
-    /// The area once a write of its FMMU's block was sent; nothing is sent to a slave outside the line.
+    /// The area once a write of its FMMU's block was sent. An area with status `Outside` stays, since nothing is sent to its
+    /// slave.
     pub fn written(self) -> JudgedArea
         ensures { result ≡ area_written self }
     {

@@ -14,7 +14,7 @@ use crate::tally::Tally;
 use crate::task_set::TaskSet;
 use hc_registers::ranked::{Gone, RankedBlock};
 
-/// Counts the areas of slaves that leave the line, in a row from an index on before another one, as they are after it.
+/// Recounts the areas from index `from` on, before index `end`, as they are once their slaves have left the line.
 fn tally_left(areas: &[JudgedArea], tally: &mut Tally, from: usize, end: usize)
     requires order { from ≤ end }
     requires inside { end ≤ length areas.now }
@@ -28,7 +28,7 @@ fn tally_left(areas: &[JudgedArea], tally: &mut Tally, from: usize, end: usize)
     }
 }
 
-/// What an area is once a moved block of it is there, and its slave, if it came with the edit, is cleared.
+/// Returns an area once its block has moved, and once its slave, if it came with the edit, is cleared.
 fn area_coming(owed: &Owed, moved: &RankedBlock, area: JudgedArea) -> JudgedArea
     requires rank { 1 ≤ moved.now.rank }
     requires inside { block_place moved.now < length owed.now.known }
@@ -37,8 +37,8 @@ fn area_coming(owed: &Owed, moved: &RankedBlock, area: JudgedArea) -> JudgedArea
     moved_area(moved, owed.will_owe(moved), area.entered())
 }
 
-/// The area with an index: what became of it if a block of it moved just before, else what is kept of it. `done` is one more than the
-/// index of the area before, or 0 if there is none.
+/// Returns the area with an index: `last` if a block of it moved just before, otherwise the area of the list. `done` is one
+/// more than the index of the area before, or 0 if there is none.
 fn area_now(areas: &[JudgedArea], n: usize, done: usize, last: JudgedArea) -> JudgedArea
     requires { n < length areas.now }
     ensures last { n + 1 ≡ done → result ≡ last }
@@ -68,9 +68,10 @@ impl Readiness {
     ghost use Rattle.hc_owed.specs.EditWaits.{ReadinessWillBeEdited};
     ghost use Rattle.hc_owed.specs.ReadinessLaws.{ForetellsWaiting};
 
-    /// The tasks that will wait once an edit that declares nothing is carried out and each slave that came with it is cleared. `owed` is
-    /// what is kept of the blocks before the edit; then come the slaves that leave the line and the blocks that move, in line and
-    /// block order. Nothing changes. It takes the time of the blocks that leave and move, and no memory.
+    /// Returns the tasks that will wait once an edit that declares nothing is carried out and each slave that came with it is
+    /// cleared. `owed` is the state of the blocks before the edit. `gone` are the slaves that leave the line, and `moved` the
+    /// blocks that move, in line and block order. Nothing changes. It takes the time of the blocks that leave and move, and
+    /// allocates nothing.
     pub fn will_wait(&self, owed: &Owed, gone: Gone, moved: &[RankedBlock]) -> TaskSet
         requires { ReadinessWillBeEdited self.now owed.now gone moved.now }
         ensures { ForetellsWaiting self.now owed.now gone moved.now result }

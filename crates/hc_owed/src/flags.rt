@@ -37,7 +37,7 @@ fn set_bit(words: &mut [u64], n: usize, set: bool)
     words[at] = with_bit(words[at], n % WORD_BITS, set);
 }
 
-/// The place of the lowest bit that is set in a word; none in 0.
+/// Returns the place of the lowest bit that is set in a word; none for 0.
 fn lowest_place(word: u64) -> Option<usize>
     ensures { MatchOption result (word ≡ 0) (IsLowestIn word) }
 {
@@ -47,7 +47,7 @@ fn lowest_place(word: u64) -> Option<usize>
     Some(word.trailing_zeros() as usize)
 }
 
-/// The place of the lowest bit that is set in a word, of those from a place on; none where none of them is.
+/// Returns the place of the lowest bit that is set in a word, from a place on; none if no bit is set from there on.
 fn lowest_from(word: u64, first: usize) -> Option<usize>
     requires { first < 64 }
     ensures { MatchOption result (IsClearFrom word first) (IsLowestFrom word first) }
@@ -58,7 +58,7 @@ fn lowest_from(word: u64, first: usize) -> Option<usize>
     }
 }
 
-/// How many bits are set in a word.
+/// Returns the number of bits that are set in a word.
 fn ones_in(word: u64) -> usize
     ensures count { result ≡ count_ones word }
     ensures word { word < 2 ^ 64 }
@@ -66,8 +66,7 @@ fn ones_in(word: u64) -> usize
     word.count_ones() as usize
 }
 
-/// Makes a list of words so long, where it is shorter, with the help of memory that was taken before: the words
-/// that come are 0.
+/// Lengthens a list to `count` words if it is shorter, in memory that was allocated before. The new words are 0.
 fn lengthen(words: &mut Vec<u64>, room: Room<u64>, count: usize)
     requires { count ≤ room }
     ensures { words.new.items ≡ words.old.items ++ replicate (count - length words.old.items) 0 }
@@ -80,7 +79,7 @@ fn lengthen(words: &mut Vec<u64>, room: Room<u64>, count: usize)
     let _longer = words.resize(count, 0);
 }
 
-/// The words that hold so many bits.
+/// Returns the number of words that hold so many bits.
 fn word_count(bits: usize) -> usize
     requires { bits < 2 ^ 32 }
     ensures { result ≡ (bits + 63) / 64 }
@@ -88,12 +87,12 @@ fn word_count(bits: usize) -> usize
     (bits + WORD_BITS - 1) / WORD_BITS
 }
 
-/// A list of flags, each a bit. It never grows over its room.
+/// A list of flags, each a bit. It never grows over its capacity.
 #[derive(Debug, Drop)]
 pub(crate) struct Flags {
     words: Vec<u64>,
     len: usize,
-    // how many are set
+    // the number of flags that are set
     count: usize,
 }
 
@@ -114,7 +113,7 @@ impl Flags {
     ghost use Rattle.hc_records.specs.Lists.{changed_at};
     ghost use Rattle.hc_owed.specs.Flags.{nth_set, set_count};
 
-    /// No flag, with room for so many, fewer than 2^32. `AllocError` where a growth was refused.
+    /// Returns an empty list with a capacity of `room` flags, fewer than 2^32. Fails with `AllocError` if an allocation fails.
     pub(crate) fn with_room(alloc: Global, room: usize) -> Result<Flags, AllocError>
         requires { room < 2 ^ 32 }
         ensures empty { IfOk result (λ flags. flags.list ≡ []) }
@@ -132,7 +131,7 @@ impl Flags {
         })
     }
 
-    /// Memory for so many more flags, for `add_cleared`. `AllocError` where a growth was refused.
+    /// Allocates memory for `more` further flags, for `add_cleared`. Fails with `AllocError` if an allocation fails.
     pub(crate) fn room_for(&self, alloc: Global, more: usize) -> Result<Room<u64>, AllocError>
         requires { length self.now.list + more < 2 ^ 32 }
         ensures { IfOk result (λ room. length self.now.list + more ≤ 64 * room) }
@@ -141,7 +140,7 @@ impl Flags {
         Room::for_more(alloc, &self.words, longer)
     }
 
-    /// Makes room for so many more flags, with the help of memory that was taken before.
+    /// Raises the capacity by `more` flags, in memory that was allocated before.
     fn widen(&mut self, room: Room<u64>, more: usize)
         requires few { length self.old.list + more < 2 ^ 32 }
         requires room { length self.old.list + more ≤ 64 * room }
@@ -152,7 +151,7 @@ impl Flags {
         lengthen(&mut self.words, room, count);
     }
 
-    /// Adds so many flags that aren't set, with the help of memory that was taken before. Nothing can be refused.
+    /// Adds `more` flags that are not set, in memory that was allocated before. It cannot fail.
     pub(crate) fn add_cleared(&mut self, room: Room<u64>, more: usize)
         requires few { length self.old.list + more < 2 ^ 32 }
         requires room { length self.old.list + more ≤ 64 * room }
@@ -164,7 +163,7 @@ impl Flags {
         }
     }
 
-    /// How many flags are set.
+    /// Returns the number of flags that are set.
     pub(crate) fn count(&self) -> usize
         ensures { result ≡ set_count self.now.list }
     {
@@ -191,7 +190,7 @@ impl Flags {
         self.count = self.count - one(was) + one(flag);
     }
 
-    /// The flag at an index.
+    /// Returns the flag at an index.
     pub(crate) fn get(&self, n: usize) -> bool
         requires { n < length self.now.list }
         ensures { slice_get self.now.list n ≡ Some result }
@@ -200,8 +199,8 @@ impl Flags {
         word >> (n % WORD_BITS) & 1 == 1
     }
 
-    /// Where the flag that is set after so many others can be found: no word before its own is looked at flag by flag, but
-    /// counted. It is the flag from which on it is sought, and how many set flags from there on are before it.
+    /// Returns the start of the search for the set flag with number `index`, from 0: the first flag of its word, and the number
+    /// of set flags of this word before it. The earlier words are counted, and not looked at flag by flag.
     fn words_skipped(&self, index: usize) -> (usize, usize)
         ensures { nth_set result.1 result.0 (drop result.0 self.now.list) ≡ nth_set index 0 self.now.list }
     {
@@ -216,8 +215,8 @@ impl Flags {
         (WORD_BITS * self.words.len(), left)
     }
 
-    /// The index of the flag that is set after so many others that are; none where fewer are set. It counts the words before
-    /// the flag's own, and looks at each flag of that one.
+    /// Returns the index of the set flag with number `index`, from 0, among the flags that are set; none if fewer are set. It
+    /// counts the words before the flag's own, and looks at each flag of that one.
     pub(crate) fn nth(&self, index: usize) -> Option<usize>
         ensures value { result ≡ nth_set index 0 self.now.list }
         ensures low { IfSome result (λ n. n < length self.now.list) }
@@ -235,7 +234,7 @@ impl Flags {
         None
     }
 
-    /// The index of the first flag that is set; none where none is.
+    /// Returns the index of the first flag that is set; none if none is.
     pub(crate) fn first(&self) -> Option<usize>
         ensures value { result ≡ position (λ flag. flag) self.now.list }
         ensures low { IfSome result (λ n. n < length self.now.list) }
@@ -249,7 +248,7 @@ impl Flags {
         None
     }
 
-    /// The index of the first flag that is set, of those from an index on; none where none of them is.
+    /// Returns the index of the first flag that is set, from an index on; none if none is set from there on.
     pub(crate) fn next_from(&self, from: usize) -> Option<usize>
         ensures value { result ≡ position_from (λ flag. flag) from (drop from self.now.list) }
         ensures low { IfSome result (λ n. n < length self.now.list) }

@@ -1,4 +1,4 @@
-//! Which slaves keep a task waiting.
+//! `Readiness::held_by`: the slaves that keep a task waiting.
 ghost use Rattle.std.specs.Prelude.{◌≡◌, ◌<◌};
 ghost use Rattle.std.specs.List.{list_any};
 ghost use Rattle.hc_records.specs.declared.limits.TheConstants.{TASKS};
@@ -12,7 +12,7 @@ impl JudgedArea {
     ghost use Rattle.hc_records.specs.declared.limits.TheConstants.{TASKS};
     ghost use Rattle.hc_owed.specs.Holders.{area_holds, area_holds_outside};
 
-    /// Whether one of its owed blocks concerns a task, 0 to 7.
+    /// True if one of its owed blocks concerns a task, 0 to 7.
     fn holds(&self, task: u8) -> bool
         requires { task < TASKS }
         ensures { result ≡ area_holds task self.now }
@@ -20,7 +20,7 @@ impl JudgedArea {
         self.sync_manager_concerns().has(task) || self.fmmu_concerns().has(task)
     }
 
-    /// Whether its register concerns a task, 0 to 7, while its slave is outside the line.
+    /// True if its register concerns a task, 0 to 7, while its slave is outside the line.
     fn holds_outside(&self, task: u8) -> bool
         requires { task < TASKS }
         ensures { result ≡ area_holds_outside task self.now }
@@ -29,7 +29,7 @@ impl JudgedArea {
     }
 }
 
-/// Whether an owed block of one of these areas concerns a task, 0 to 7.
+/// True if an owed block of one of these areas concerns a task, 0 to 7.
 fn one_holds(areas: &[JudgedArea], task: u8) -> bool
     requires { task < TASKS }
     ensures { result ≡ list_any (area_holds task) areas.now }
@@ -42,7 +42,7 @@ fn one_holds(areas: &[JudgedArea], task: u8) -> bool
     false
 }
 
-/// Whether the register of one of these areas concerns a task, 0 to 7, while its slave is outside the line.
+/// True if the register of one of these areas concerns a task, 0 to 7, while its slave is outside the line.
 fn one_holds_outside(areas: &[JudgedArea], task: u8) -> bool
     requires { task < TASKS }
     ensures { result ≡ list_any (area_holds_outside task) areas.now }
@@ -65,8 +65,8 @@ impl Readiness {
     ghost use Rattle.hc_owed.specs.ReadinessSteps.{IsReadinessFor};
     ghost use Rattle.hc_owed.specs.RegisterState.{Knowledge};
 
-    /// Whether a slave holds a task up: the first numbers are of the declared slaves by rank, for blocks in the line, and as many after
-    /// them are of the same slaves, for registers outside it.
+    /// True if a slave holds a task up. The numbers below `slaves` are of the declared slaves by rank, for blocks in the line.
+    /// The same slaves have the next `slaves` numbers, for registers outside it.
     fn flag_at(&self, slaves: usize, n: usize, task: u8) -> bool
         requires task { task < TASKS }
         requires slaves { 8 * slaves ≤ length self.now }
@@ -81,9 +81,9 @@ impl Readiness {
         }
     }
 
-    /// The slave with an index, from 0, of those that a task, 0 to 7, waits for: its index by rank, from 0. First come those of the
-    /// line, in line order, then those outside it, in declared order. `None` if they are fewer. It takes the time of the declared
-    /// slaves.
+    /// Returns the index by rank, from 0, of the slave number `n`, from 0, among those that a task, 0 to 7, waits for. First
+    /// come those of the line, in line order, then those outside it, in declared order. `None` if they are fewer. It takes the
+    /// time of the declared slaves.
     pub fn held_by(&self, task: u8, n: u32) -> Option<u16>
         requires { task < TASKS }
         ensures { GivesHolder self.now task n result }
@@ -96,7 +96,7 @@ impl Readiness {
         Some((found - slaves) as u16)
     }
 
-    /// The number of the flag that is set after so many others that are, if there is one.
+    /// Returns the position of the set flag with number `n`, from 0, among the flags that are set; none if fewer are set.
     fn nth_flag(&self, task: u8, n: usize) -> Option<usize>
         requires { task < TASKS }
         ensures value { result ≡ nth_set n 0 (flags_of task self.now) }

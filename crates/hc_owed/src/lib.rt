@@ -1,7 +1,7 @@
-//! What the slaves' registers are known to hold, and which register blocks they still lack: the line's block, the
-//! known bytes and a bit at each place of a declared slave's blocks, by rank, and the count of the bits. The core
-//! asks for the next owed block, and says of writes, of their good answers, and of edits. An edit costs what it
-//! changes, and a group that is declared what it brings. `Readiness` keeps which tasks can be sent while blocks are owed.
+//! The registers of the slaves. `Owed` stores the bytes that each register block is known to have, and the blocks that are
+//! owed: one place for each block of a declared slave, by rank. The core asks it for the next owed block, and tells it of
+//! writes, of their good answers, and of edits. The cost of an edit depends on what it changes, and that of a declared group on
+//! its slaves. `Readiness` stores which tasks can be sent while blocks are owed.
 #![tactic(auto)]
 
 pub mod area;

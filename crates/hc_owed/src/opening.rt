@@ -1,4 +1,4 @@
-//! What is kept first: which blocks the line has, by the declared slaves alone.
+//! The registers of a line at its opening, from the declared slaves: their station addresses, known bytes and owed blocks.
 ghost use Rattle.std.specs.Prelude.{◌≡◌, ◌+◌, ◌++◌, ◌*◌, ◌<◌, ◌≤◌, ◌^◌, IfOk, OnOk, None, length, map, replicate};
 ghost use Rattle.hc_records.specs.Line.{groups_of};
 ghost use Rattle.hc_records.specs.Project.{slaves_of};
@@ -9,7 +9,7 @@ use hc_records::records::{Declared, Slave};
 use hc_registers::blocks::Block;
 use std::alloc::{AllocError, Global};
 
-/// Adds the station addresses of slaves. `AllocError` where a growth was refused.
+/// Adds the station addresses of slaves. Fails with `AllocError` if an allocation fails.
 pub(crate) fn push_stations(stations: &mut Vec<u16>, slaves: &[Slave]) -> Result<(), AllocError>
     ensures { OnOk result (stations.new.items ≡ stations.old.items ++ map (λ slave. slave.station) slaves.now) }
 {
@@ -19,7 +19,7 @@ pub(crate) fn push_stations(stations: &mut Vec<u16>, slaves: &[Slave]) -> Result
     Ok(())
 }
 
-/// The station addresses of all declared slaves, by rank. `AllocError` where a growth was refused.
+/// Returns the station addresses of all declared slaves, by rank. Fails with `AllocError` if an allocation fails.
 pub(crate) fn declared_stations(alloc: Global, groups: &[Declared]) -> Result<Vec<u16>, AllocError>
     ensures { IfOk result (λ stations. stations.items ≡ map (λ slave. slave.station) (slaves_of (groups_of groups.now))) }
 {
@@ -30,7 +30,7 @@ pub(crate) fn declared_stations(alloc: Global, groups: &[Declared]) -> Result<Ve
     Ok(stations)
 }
 
-/// Nothing known at so many places. `AllocError` where a growth was refused.
+/// Returns a list in which nothing is known at so many places. Fails with `AllocError` if an allocation fails.
 pub(crate) fn nothing_known(alloc: Global, places: usize) -> Result<Vec<Option<Block>>, AllocError>
     ensures { IfOk result (λ known. known.items ≡ replicate places None) }
 {
@@ -41,7 +41,7 @@ pub(crate) fn nothing_known(alloc: Global, places: usize) -> Result<Vec<Option<B
     Ok(known)
 }
 
-/// Whether a slave has a block with a number: two blocks for each area of a present one.
+/// True if a slave has a block with this number: a present slave has two blocks for each area.
 fn has_block(present: bool, slave: &Slave, number: usize) -> bool
     ensures { result ≡ slave_has_block present slave.now number }
 {
@@ -68,8 +68,8 @@ fn push_slaves(flags: &mut Flags, present: bool, slaves: &[Slave])
     }
 }
 
-/// The places of all declared slaves; those with a block of the line are set. `AllocError` where a growth
-/// was refused.
+/// Returns a flag for each place of all declared slaves; those with a block of the line are set. Fails with `AllocError` if an
+/// allocation fails.
 pub(crate) fn declared_flags(
     alloc: Global,
     groups: &[Declared],

@@ -1,4 +1,4 @@
-//! Which register blocks the slaves of the present line still lack.
+//! `Owed`: the register blocks that the slaves of the present line still lack.
 ghost use Rattle.std.specs.Prelude.{◌≡◌, option_map};
 ghost use Rattle.hc_owed.specs.RegisterState.{differs};
 
@@ -19,7 +19,7 @@ pub struct OwedBlock {
     pub block: LineBlock,
 }
 
-/// Whether the known bytes of a block aren't those that the line configures, or there are none.
+/// True if the known bytes of a block are not those that the line configures, or if none are known.
 fn differs(known: &Option<Block>, block: &Block) -> bool
     ensures { result ≡ differs block.now.bytes (option_map (λ known. known.bytes) known.now) }
 {
@@ -29,8 +29,9 @@ fn differs(known: &Option<Block>, block: &Block) -> bool
     }
 }
 
-/// At each place of a declared slave's blocks, present or not: the bytes that the slave is known to have, and whether the block is
-/// owed. The line's blocks are the plan's. Contracts see it as a `RegisterState`, which also has the station addresses.
+/// For each place of a declared slave's blocks, present or not: the bytes that the slave is known to have, and a flag if the
+/// block is owed. The line's blocks are the plan's. Contracts see it as a `RegisterState`, which also has the station
+/// addresses.
 #[derive(Debug, Drop)]
 pub struct Owed {
     pub(crate) known: Vec<Option<Block>>,
@@ -60,8 +61,8 @@ impl Owed {
     ghost use Rattle.hc_owed.specs.Laws.{ConfirmsBlock, GivesBlockAt, GivesFirstOwed, GivesNextOwed, GivesOwedAt, IsLackingAt, IsRightFor, RegistersAreEdited, known_over, known_without, lacking_blocks, owed_from, with_known};
     ghost use Rattle.hc_owed.specs.Steps.{cleared, compared, compared_all, places_emptied, forgotten_at, forgotten_of, has_block, learnt, owed_where_moved, place_judged};
 
-    /// What is kept of a line whose slaves were just connected: nothing is known of any block, and every block is
-    /// owed. `AllocError` where a growth was refused; of the later calls `room_for` alone takes memory.
+    /// Returns the state of a line whose slaves were just connected: nothing is known of any block, and every block is owed.
+    /// Fails with `AllocError` if an allocation fails. Of the later calls only `room_for` allocates.
     pub fn new(alloc: Global, plan: &Plan) -> Result<Owed, AllocError>
         ensures { IfOk result (λ owed. owed ≡ register_state_of nothing_known plan.now) }
     {
@@ -76,14 +77,14 @@ impl Owed {
         })
     }
 
-    /// How many blocks of the line are owed. It takes no time.
+    /// Returns the number of owed blocks of the line. It takes constant time.
     pub fn count(&self) -> u32
         ensures { (known : Knowledge) (state : State) → IsRightFor known state self.now → result ≡ length (lacking_blocks known state) }
     {
         self.owed.count() as u32
     }
 
-    /// How many slaves are declared, present or not.
+    /// Returns the number of declared slaves, present or not: fewer than 65,536.
     pub fn slaves(&self) -> usize
         ensures count { result ≡ length self.now.stations }
         ensures few { result < 65536 }
@@ -91,7 +92,7 @@ impl Owed {
         self.stations.len()
     }
 
-    /// Whether the block at a place is owed; false for a place without a block.
+    /// True if the block at a place is owed; false for a place without a block.
     pub fn is_owed(&self, place: usize) -> bool
         requires { place < length self.now.owed }
         ensures { slice_get self.now.owed place ≡ Some result }
@@ -99,7 +100,7 @@ impl Owed {
         self.owed.get(place)
     }
 
-    /// The line's block at a place, with its slave's station address and its number; none where the place is empty.
+    /// Returns the line's block at a place, with its slave's station address and its number; none if the place is empty.
     fn found_at(&self, plan: &Plan, place: usize) -> Option<OwedBlock>
         requires { place < length self.now.known }
         ensures { GivesBlockAt plan.now self.now place result }
@@ -117,7 +118,8 @@ impl Owed {
         })
     }
 
-    /// The first owed block of a plan's line in line and block order; none if nothing is owed. It looks at 64 places at a time.
+    /// Returns the first owed block of a plan's line in line and block order; none if nothing is owed. It looks at 64 places at
+    /// a time.
     pub fn first(&self, plan: &Plan) -> Option<OwedBlock>
         ensures { GivesFirstOwed plan.now self.now result }
     {
@@ -125,8 +127,8 @@ impl Owed {
         self.found_at(plan, place)
     }
 
-    /// The owed block of a plan's line with an index, from 0, in line and block order; none if fewer are owed. It counts the
-    /// words of 64 places up to it.
+    /// Returns the owed block of a plan's line with an index, from 0, in line and block order; none if fewer are owed. It
+    /// counts the words of 64 places up to it.
     pub fn nth(&self, plan: &Plan, index: u32) -> Option<OwedBlock>
         ensures { (known : Knowledge) (state : State) → plan.now ≡ state → IsRightFor known state self.now → GivesOwedAt known state index result }
     {
@@ -134,9 +136,9 @@ impl Owed {
         self.found_at(plan, place)
     }
 
-    /// The first owed block of a plan's line at a place or after it, in line and block order; none if nothing is owed from there
-    /// on. So place 0 gives the first owed block, and the place after an owed block the next one. It looks at 64 places at a
-    /// time.
+    /// Returns the first owed block of a plan's line at a place or after it, in line and block order; none if nothing is owed
+    /// from there on. Place 0 gives the first owed block, and the place after an owed block the next one. It looks at 64 places
+    /// at a time.
     pub fn next_from(&self, plan: &Plan, place: u32) -> Option<OwedBlock>
         ensures next { GivesNextOwed plan.now self.now place result }
         ensures all { (known : Knowledge) (state : State) → lowest_fault (groups_of state.groups) ≡ None → owed_from known state 0 ≡ lacking_blocks known state }
@@ -145,7 +147,7 @@ impl Owed {
         self.found_at(plan, place)
     }
 
-    /// Sets what is known of the block at a place.
+    /// Sets the known bytes of the block at a place.
     fn learn(&mut self, place: usize, known: Option<Block>)
         requires { place < length self.old.known }
         ensures { self.new ≡ learnt place (option_map (λ block. block.bytes) known) self.old }
@@ -153,7 +155,7 @@ impl Owed {
         self.known[place] = known;
     }
 
-    /// Sets whether the block at a place is owed.
+    /// Marks the block at a place as owed or not owed.
     fn judge(&mut self, place: usize, owed: bool)
         requires { place < length self.old.known }
         ensures { self.new ≡ place_judged place owed self.old }
@@ -161,8 +163,8 @@ impl Owed {
         self.owed.set(place, owed);
     }
 
-    /// The write of an owed block at a place was sent: until it is answered well, nothing is known of the block,
-    /// and it is owed as before.
+    /// Records that the write of an owed block at a place was sent. Until it is answered well nothing is known of the block,
+    /// and it stays owed.
     pub fn sent(&mut self, place: u32)
         requires { place < length self.old.known }
         ensures { (known : Knowledge) (state : State) (block : LineBlock) → IsLackingAt self.old place known state block → self.new ≡ with_known known state block None }
@@ -170,8 +172,8 @@ impl Owed {
         self.learn(place as usize, None);
     }
 
-    /// The write of the block at a place was answered well, with the bytes that a plan's line configures: its
-    /// slave has them, and the block isn't owed.
+    /// Records that the write of the block at a place was answered well: its slave has the bytes that the plan's line
+    /// configures, and the block is no longer owed.
     pub fn confirmed(&mut self, plan: &Plan, place: u32)
         requires { place < length self.old.known }
         ensures { ConfirmsBlock plan.now place self.old self.new }
@@ -181,7 +183,7 @@ impl Owed {
         self.judge(place as usize, false);
     }
 
-    /// Whether a place has a block: one that is owed or known.
+    /// True if a place has a block: one that is owed or known.
     fn has_block(&self, place: usize) -> bool
         requires { place < length self.now.known }
         ensures { result ≡ has_block self.now place }
@@ -213,9 +215,9 @@ impl Owed {
         }
     }
 
-    /// The slave with a station address may have lost its registers: nothing is known of its blocks any more, and
-    /// each of them is owed. Nothing changes where the line has no such slave. It takes the time of the places of
-    /// all declared slaves, and no memory.
+    /// Forgets the registers of the slave with a station address: nothing is known of its blocks any more, and each of them is
+    /// owed. Nothing changes if the line has no such slave. It takes the time of the places of all declared slaves, and
+    /// allocates nothing.
     pub fn forget(&mut self, station: u16)
         ensures { (known : Knowledge) (state : State) → self.old ≡ register_state_of known state → self.new ≡ register_state_of (known_without station known) state }
     {
@@ -237,7 +239,7 @@ impl Owed {
         }
     }
 
-    /// Whether a moved block is owed once the edit that moves it is carried out: other bytes are known at its place, or none.
+    /// True if a moved block is owed once the edit that moves it is carried out: other bytes are known at its place, or none.
     pub(crate) fn will_owe(&self, moved: &RankedBlock) -> bool
         requires rank { 1 ≤ moved.now.rank }
         requires inside { block_place moved.now < length self.now.known }
@@ -246,7 +248,7 @@ impl Owed {
         differs(&self.known[moved.place()], &moved.found.block)
     }
 
-    /// Compares a moved block with what is known of it.
+    /// Compares a moved block with its known bytes, and marks it as owed or not.
     fn compare(&mut self, moved: &RankedBlock)
         requires rank { 1 ≤ moved.now.rank }
         requires inside { block_place moved.now < length self.old.known }
@@ -257,7 +259,7 @@ impl Owed {
         self.judge(place, owed);
     }
 
-    /// Compares moved blocks with what is known of them.
+    /// Compares moved blocks with their known bytes, and marks each as owed or not.
     fn compare_all(&mut self, moved: &[RankedBlock])
         requires ranks { All (λ block. 1 ≤ block.rank) moved.now }
         requires inside { All (λ block. block_place block < length self.old.known) moved.now }
@@ -268,10 +270,10 @@ impl Owed {
         }
     }
 
-    /// An edit that declares nothing was accepted: these slaves left the line, and these are its moved blocks, as the line now configures
-    /// them. Of the blocks of slaves that left nothing is kept; of those that came nothing is known, and they are
-    /// owed; of the others the known bytes stay, and the moved ones are compared with them. It takes the time of
-    /// the blocks that left and moved.
+    /// Follows an accepted edit that declares nothing. `gone` are the slaves that left the line, and `moved` its moved blocks,
+    /// as the line now configures them. Of the blocks of slaves that left nothing is stored. Of the blocks of slaves that came
+    /// nothing is known, and they are owed. Of the other blocks the known bytes stay, and the moved ones are compared with
+    /// them. It takes the time of the blocks that left and moved.
     pub fn change(&mut self, gone: Gone, moved: &[RankedBlock])
         requires edited { RegistersAreEdited self.old gone moved.now }
         ensures { (is : RegistersAreEdited self.old gone moved.now) → self.new ≡ register_state_of (known_over is.old is.known) is.new }

@@ -1,4 +1,4 @@
-//! `Readiness`: which tasks can be sent while register blocks are owed.
+//! `Readiness`: the tasks that can be sent while register blocks are owed.
 ghost use Rattle.std.specs.Prelude.{◌≡◌, ℕ, ◌+◌, ◌*◌, ◌==◌, ◌<◌, ◌≤◌, IfSome, None, false, length};
 ghost use Rattle.std.specs.Option.{option_map_or};
 ghost use Rattle.hc_records.specs.declared.limits.TheConstants.{TASKS};
@@ -24,8 +24,8 @@ use std::marker::Model;
 /// The logical addresses that a task has (this project's profile).
 const TASK_SPAN: u32 = 0x0100_0000;
 
-/// The task, 0 to 7, in whose logical addresses a block's FMMU begins, if the block is an active FMMU's. None for the block of a
-/// sync manager, for an FMMU that is not active, and for addresses of no task (ETG.1000.4, 6.6).
+/// Returns the task, 0 to 7, with the logical address at which a block's FMMU begins, if the block is an active FMMU's. None
+/// for the block of a sync manager, for an FMMU that is not active, and for addresses of no task (ETG.1000.4, 6.6).
 fn named_task(block: &Block) -> Option<u8>
     ensures named { (task : ℕ) → task < TASKS → names_task task block.now.bytes ≡ option_map_or (λ own. own == task) result false }
     ensures low { IfSome result (λ task. task < TASKS) }
@@ -40,7 +40,7 @@ fn named_task(block: &Block) -> Option<u8>
     Some((span - 1) as u8)
 }
 
-/// What is kept first of the area with an index: of an area in the line, that both of its blocks are owed and that its register is
+/// Returns the state of the area with an index at the opening. Of an area in the line both blocks are owed, and the register is
 /// unknown.
 fn opened_area(plan: &Plan, n: usize) -> JudgedArea
     requires inside { 2 * n + 1 < length (places plan.now) }
@@ -61,7 +61,7 @@ fn opened_area(plan: &Plan, n: usize) -> JudgedArea
     }
 }
 
-/// What is kept of an area once one of its blocks moved, which is now owed or not.
+/// Returns the state of an area once one of its blocks has moved, which is now owed or not.
 pub(crate) fn moved_area(moved: &RankedBlock, owes: bool, area: JudgedArea) -> JudgedArea
     requires { 1 ≤ moved.now.rank }
     ensures { result ≡ block_moved owes moved.now area }
@@ -74,12 +74,12 @@ pub(crate) fn moved_area(moved: &RankedBlock, owes: bool, area: JudgedArea) -> J
     }
 }
 
-/// What is kept of the areas of all declared slaves, eight for each slave by rank, present or not: which tasks each area's
+/// The state of the areas of all declared slaves, eight for each slave by rank, present or not: the tasks that each area's
 /// blocks and its register keep waiting. Contracts see the list of the areas.
 #[derive(Debug, Drop)]
 pub struct Readiness {
     pub(crate) areas: Vec<JudgedArea>,
-    // what the areas count of each task
+    // the counts of the areas for each task
     pub(crate) tally: Tally,
 }
 
@@ -116,9 +116,9 @@ impl Readiness {
     ghost use Rattle.hc_owed.specs.RegisterState.{Knowledge, lacks, nothing_known, register_state_of};
     ghost use Rattle.hc_owed.specs.TaskSets.{has_task, tasks_where};
 
-    /// What is kept of a line whose slaves were just connected: each block of the line is owed, and each FMMU's register is unknown;
-    /// `owed` is what is kept of its blocks. `AllocError` where a growth was refused; of the later calls `room_for` alone takes
-    /// memory.
+    /// Returns the state of a line whose slaves were just connected: each block of the line is owed, and each FMMU's register
+    /// is unknown. `owed` is the state of its blocks. Fails with `AllocError` if an allocation fails. Of the later calls only
+    /// `room_for` allocates.
     pub fn new(alloc: Global, plan: &Plan, owed: &Owed) -> Result<Readiness, AllocError>
         requires owed { owed.now ≡ register_state_of nothing_known plan.now }
         requires project { lowest_fault (groups_of plan.now.groups) ≡ None }
@@ -138,7 +138,7 @@ impl Readiness {
         Ok(readiness)
     }
 
-    /// Adds an area after the others. `AllocError` where a growth was refused.
+    /// Adds an area after the others. Fails with `AllocError` if an allocation fails.
     fn push(&mut self, area: JudgedArea) -> Result<(), AllocError>
         requires { length self.old + 1 < 8 * 65536 }
         ensures { OnOk result (self.new ≡ self.old ++ area ∷ []) }
@@ -148,7 +148,7 @@ impl Readiness {
         Ok(())
     }
 
-    /// What is kept of the area with an index.
+    /// Returns the area with an index.
     fn area(&self, n: usize) -> JudgedArea
         requires { n < length self.now }
         ensures { slice_get self.now n ≡ Some result }
@@ -156,7 +156,7 @@ impl Readiness {
         self.areas[n]
     }
 
-    /// Sets what is kept of the area with an index, and judges both of its blocks and its register again.
+    /// Replaces the area with an index, and counts both of its blocks and its register again.
     fn set_area(&mut self, n: usize, now: JudgedArea)
         requires { n < length self.old }
         ensures { self.new ≡ changed_at n (λ _. now) self.old }
@@ -166,7 +166,7 @@ impl Readiness {
         self.areas[n] = now;
     }
 
-    /// This happens to the slaves of the areas from an index on, before another one.
+    /// Applies an event of their slaves to the areas from index `from` on, before index `end`.
     fn turn(&mut self, from: usize, end: usize, turn: Turn)
         requires order { from ≤ end }
         requires inside { end ≤ length self.old }
@@ -178,8 +178,8 @@ impl Readiness {
         }
     }
 
-    /// A write of the block of an area's FMMU was sent. No count changes by it: the owed block concerns the tasks that it concerned,
-    /// and no register in the line is counted.
+    /// Records that a write of the block of an area's FMMU was sent. No count changes by it: the owed block concerns the same
+    /// tasks as before, and no register in the line is counted.
     fn write_area(&mut self, n: usize, area: JudgedArea)
         requires { slice_get self.old n ≡ Some area }
         ensures { self.new ≡ changed_at n (λ _. area_written area) self.old }
@@ -187,7 +187,8 @@ impl Readiness {
         self.areas[n] = area.written();
     }
 
-    /// The write of the block at a place was sent: an FMMU's register may hold what the line configures from now on.
+    /// Records that the write of the block at a place was sent: from then on an FMMU's register may hold what the line
+    /// configures.
     pub fn sent(&mut self, place: u32)
         requires { place < 2 * length self.old }
         ensures { SendsAt self.old self.new place }
@@ -199,7 +200,7 @@ impl Readiness {
         }
     }
 
-    /// A write of the block of an area's sync manager was answered well.
+    /// Records that a write of the block of an area's sync manager was answered well.
     fn confirm_sync_manager(&mut self, n: usize, area: JudgedArea)
         requires { slice_get self.old n ≡ Some area }
         ensures { self.new ≡ changed_at n (λ _. sync_manager_confirmed area) self.old }
@@ -208,7 +209,7 @@ impl Readiness {
         self.areas[n] = area.sync_manager_confirmed();
     }
 
-    /// A write of the block of an area's FMMU was answered well.
+    /// Records that a write of the block of an area's FMMU was answered well.
     fn confirm_fmmu(&mut self, n: usize, area: JudgedArea)
         requires { slice_get self.old n ≡ Some area }
         ensures { self.new ≡ changed_at n (λ _. fmmu_confirmed area) self.old }
@@ -217,8 +218,8 @@ impl Readiness {
         self.areas[n] = area.fmmu_confirmed();
     }
 
-    /// The write of the block at a place was answered well, with the bytes that the present line configures: the block is not
-    /// owed, and an FMMU's register holds these bytes alone.
+    /// Records that the write of the block at a place was answered well, with the bytes that the present line configures: the
+    /// block is no longer owed, and an FMMU's register holds these bytes alone.
     pub fn confirmed(&mut self, place: u32)
         requires { place < 2 * length self.old }
         ensures { ConfirmsAt self.old self.new place }
@@ -232,8 +233,8 @@ impl Readiness {
         }
     }
 
-    /// The slave with an index by rank, from 0, may have lost its registers: each of its blocks is owed, if it is in the line. What its
-    /// FMMUs' registers may hold stays.
+    /// Follows the loss of the registers of the slave with an index by rank, from 0: each of its blocks is owed, if it is in
+    /// the line. The bytes that its FMMUs' registers may hold stay.
     pub fn forget(&mut self, index: u16)
         requires { 8 * index + 8 ≤ length self.old }
         ensures { ForgetsSlave self.old self.new index }
@@ -242,7 +243,8 @@ impl Readiness {
         self.turn(from, from + 8, Turn::Forgotten);
     }
 
-    /// The FMMUs' registers of the slave with an index by rank, from 0, hold zeros: they name no task, and are not unknown.
+    /// Follows the clearing of the FMMUs' registers of the slave with an index by rank, from 0: they hold zeros, name no task,
+    /// and are not unknown.
     pub fn clear(&mut self, index: u16)
         requires { 8 * index + 8 ≤ length self.old }
         ensures { ClearsSlave self.old self.new index }
@@ -251,8 +253,8 @@ impl Readiness {
         self.turn(from, from + 8, Turn::Cleared);
     }
 
-    /// The slave with an index by rank, from 0, which is outside the line, is off the wire: its registers concern no task until it is in the
-    /// line again.
+    /// Follows the unplugging of the slave with an index by rank, from 0, which is outside the line: its registers concern no
+    /// task until it is in the line again.
     pub fn unplug(&mut self, index: u16)
         requires { 8 * index + 8 ≤ length self.old }
         ensures { UnplugsSlave self.old self.new index }
@@ -261,8 +263,8 @@ impl Readiness {
         self.turn(from, from + 8, Turn::Unplugs);
     }
 
-    /// A block of the line moved with an edit. `owed` is what is kept of the blocks after it. The tasks that its area was in and is in
-    /// now are returned.
+    /// Follows the move of a block of the line with an edit, and returns the tasks that its area was in and is in now. `owed`
+    /// is the state of the blocks after the edit.
     fn move_block(&mut self, owed: &Owed, moved: &RankedBlock) -> TaskSet
         requires rank { 1 ≤ moved.now.rank }
         requires area { block_place moved.now < 2 * length self.old }
@@ -278,7 +280,8 @@ impl Readiness {
         was.own.with(now.own)
     }
 
-    /// Blocks of the line moved with an edit, one after another. The tasks that their areas were in and are in now are returned.
+    /// Follows the moves of blocks of the line with an edit, one after another, and returns the tasks that their areas were in
+    /// and are in now.
     fn move_blocks(&mut self, owed: &Owed, moved: &[RankedBlock]) -> TaskSet
         requires ranks { All (λ block. 1 ≤ block.rank) moved.now }
         requires areas { All (λ block. block_place block < 2 * length self.old) moved.now }
@@ -293,10 +296,11 @@ impl Readiness {
         set
     }
 
-    /// An edit that declares nothing was accepted: these slaves left the line, and these are its moved blocks; `owed` is what is kept
-    /// of the blocks after it. The registers of slaves that came are unknown. What registers may hold stays, and those of slaves that
-    /// left concern the tasks that they name from now on. The tasks whose register blocks the edit changed are returned: a block of
-    /// one of the task's areas left, came, or has other bytes. It takes the time of the blocks that left and moved, and no memory.
+    /// Follows an accepted edit that declares nothing. `gone` are the slaves that left the line, `moved` its moved blocks, and
+    /// `owed` the state of the blocks after the edit. The registers of slaves that came are unknown. The bytes that registers
+    /// may hold stay, and the registers of slaves that left concern the tasks that they name from then on. Returns the tasks
+    /// whose register blocks the edit changed: a block of one of the task's areas left, came, or has other bytes. It takes the
+    /// time of the blocks that left and moved, and allocates nothing.
     pub fn change(&mut self, owed: &Owed, gone: Gone, moved: &[RankedBlock]) -> TaskSet
         requires { ReadinessIsEdited self.old owed.now gone moved.now }
         ensures areas { FollowsEdit self.old self.new owed.now gone moved.now }
@@ -308,7 +312,7 @@ impl Readiness {
         left.with(self.move_blocks(owed, moved))
     }
 
-    /// How many owed blocks a task, 0 to 7, waits for: those that concern it. It takes no time.
+    /// Returns the number of owed blocks that a task, 0 to 7, waits for: those that concern it. It takes constant time.
     pub fn waiting(&self, task: u8) -> u32
         requires { task < TASKS }
         ensures { WaitsForBlocks self.now task result }
@@ -316,7 +320,8 @@ impl Readiness {
         self.tally.blocks[usize::from(task)]
     }
 
-    /// How many registers of slaves outside the line a task, 0 to 7, waits for: those with contents that name it. It takes no time.
+    /// Returns the number of registers of slaves outside the line that a task, 0 to 7, waits for: those with contents that name
+    /// it. It takes constant time.
     pub fn outside(&self, task: u8) -> u32
         requires { task < TASKS }
         ensures { WaitsForRegisters self.now task result }
@@ -324,7 +329,7 @@ impl Readiness {
         self.tally.registers[usize::from(task)]
     }
 
-    /// Whether a task, 0 to 7, waits for nothing, so that it can be sent. It takes no time.
+    /// True if a task, 0 to 7, waits for nothing, so that it can be sent. It takes constant time.
     pub fn is_ready(&self, task: u8) -> bool
         requires { task < TASKS }
         ensures { TellsReady self.now task result }
@@ -332,14 +337,14 @@ impl Readiness {
         self.tally.is_free(task)
     }
 
-    /// The tasks that wait for nothing. It takes the time of eight tasks.
+    /// Returns the tasks that wait for nothing. It takes the time of eight tasks.
     pub fn ready(&self) -> TaskSet
         ensures { AreReady self.now result }
     {
         self.tally.free()
     }
 
-    /// The tasks that wait, each for some block or register. It takes the time of eight tasks.
+    /// Returns the tasks that wait, each for some block or register. It takes the time of eight tasks.
     pub fn waiting_tasks(&self) -> TaskSet
         ensures now { AreWaiting self.now result }
         ensures declared { ForetellsDeclared self.now result }

@@ -1,4 +1,4 @@
-//! A declared group's way into what is kept of the areas: the memory that it needs is taken first, then nothing can be refused.
+//! The areas of a declared group: `room_for` allocates their memory, and `admit`, which adds them, cannot fail.
 ghost use Rattle.std.specs.Prelude.{◌≡◌, ◌+◌, ◌*◌, ◌≤◌, ◌++◌, IfOk, length, replicate};
 ghost use Rattle.hc_owed.specs.Readiness.{no_area};
 
@@ -7,14 +7,14 @@ use crate::readiness::Readiness;
 use hc_records::room::Room;
 use std::alloc::{AllocError, Global};
 
-/// The memory that the areas of a declared group's slaves need, and how many slaves these are.
+/// The memory for the areas of a declared group's slaves, and the number of these slaves.
 #[derive(Drop)]
 pub struct ReadinessRoom {
     pub(crate) areas: Room<JudgedArea>,
     pub(crate) slaves: usize,
 }
 
-/// Adds so many areas of slaves that are outside the line, with the help of memory that was taken before.
+/// Adds `count` areas of slaves outside the line, in memory that was allocated before.
 fn add_areas(areas: &mut Vec<JudgedArea>, room: Room<JudgedArea>, count: usize)
     requires { length areas.old.items + count ≤ room }
     ensures { areas.new.items ≡ areas.old.items ++ replicate count no_area }
@@ -35,8 +35,8 @@ impl Readiness {
     ghost use Rattle.hc_owed.specs.ReadinessRoom.{IsReadinessRoomFor, ReadinessCanAdmit};
     ghost use Rattle.hc_owed.specs.ReadinessSteps.{held_over, unplugged_over};
 
-    /// The memory that it needs to take in so many slaves of a group that is declared after the others. `AllocError` where a growth
-    /// was refused.
+    /// Allocates the memory for the slaves of a group that is declared after the others. Fails with `AllocError` if an
+    /// allocation fails.
     pub fn room_for(&self, alloc: Global, slaves: usize) -> Result<ReadinessRoom, AllocError>
         requires { slaves < 65536 }
         ensures { IfOk result (IsReadinessRoomFor (length self.now) slaves) }
@@ -47,8 +47,8 @@ impl Readiness {
         })
     }
 
-    /// A group is declared after the others, absent, in memory that was taken before: its slaves' registers concern no task. Nothing
-    /// can be refused.
+    /// Adds the areas of a group that is declared after the others, absent, in memory that was allocated before. The registers
+    /// of its slaves concern no task. It cannot fail.
     pub fn admit(&mut self, room: ReadinessRoom)
         requires { ReadinessCanAdmit self.old room }
         ensures { AdmitsGroup self.old self.new room }

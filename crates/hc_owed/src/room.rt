@@ -1,4 +1,4 @@
-//! A declared group's way into what is kept: the memory that it needs is taken first, then nothing can be refused.
+//! The blocks of a declared group: `room_for` allocates their memory, and `admit`, which adds them, cannot fail.
 ghost use Rattle.std.specs.Prelude.{◌≡◌, ◌+◌, ◌≤◌, ◌++◌, IfOk, None, length, map, replicate};
 
 use crate::opening::push_stations;
@@ -9,7 +9,7 @@ use hc_registers::blocks::Block;
 use std::alloc::{AllocError, Global};
 use std::marker::Model;
 
-/// The memory that a declared group's slaves need, and their station addresses.
+/// The memory for the blocks of a declared group's slaves, and their station addresses.
 #[derive(Drop)]
 pub struct OwedRoom {
     known: Room<Option<Block>>,
@@ -26,7 +26,7 @@ impl Model for OwedRoom {
     ghost view = { λ room. record { known = room.known; owed = room.owed; stations = room.stations; added = room.added.items } };
 }
 
-/// The station addresses of slaves.
+/// Returns the station addresses of slaves. Fails with `AllocError` if an allocation fails.
 fn own_stations(alloc: Global, slaves: &[Slave]) -> Result<Vec<u16>, AllocError>
     ensures { IfOk result (λ stations. stations.items ≡ map (λ slave. slave.station) slaves.now) }
 {
@@ -35,7 +35,7 @@ fn own_stations(alloc: Global, slaves: &[Slave]) -> Result<Vec<u16>, AllocError>
     Ok(stations)
 }
 
-/// Adds so many places where there is nothing, with the help of memory that was taken before.
+/// Adds so many places of which nothing is known, in memory that was allocated before.
 fn add_nothing(list: &mut Vec<Option<Block>>, room: Room<Option<Block>>, places: usize)
     requires { length list.old.items + places ≤ room }
     ensures { list.new.items ≡ list.old.items ++ replicate places None }
@@ -46,7 +46,7 @@ fn add_nothing(list: &mut Vec<Option<Block>>, room: Room<Option<Block>>, places:
     }
 }
 
-/// Adds station addresses, with the help of memory that was taken before.
+/// Adds station addresses, in memory that was allocated before.
 fn add_stations(stations: &mut Vec<u16>, room: Room<u16>, added: Vec<u16>)
     requires { length stations.old.items + length added.items ≤ room }
     ensures { stations.new.items ≡ stations.old.items ++ added.items }
@@ -64,8 +64,8 @@ impl Owed {
     ghost use Rattle.hc_owed.specs.Laws.{known_over};
     ghost use Rattle.hc_owed.specs.Room.{RegistersCanAdmit, IsOwedRoomFor, registers_widened};
 
-    /// The memory that it needs to take in the slaves of a group that is declared after the others. `AllocError`
-    /// where a growth was refused. It looks at the group alone.
+    /// Allocates the memory for the slaves of a group that is declared after the others. Fails with `AllocError` if an
+    /// allocation fails. It looks at the group alone.
     pub fn room_for(&self, alloc: Global, slaves: &[Slave]) -> Result<OwedRoom, AllocError>
         requires { length self.now.stations + length slaves.now < 65536 }
         ensures { IfOk result (IsOwedRoomFor (length self.now.stations) slaves.now) }
@@ -93,8 +93,8 @@ impl Owed {
         add_stations(&mut self.stations, room.stations, room.added);
     }
 
-    /// A group is declared after the others, absent: its slaves get empty places, in memory that was taken before,
-    /// and nothing can be refused. Of the blocks of the line what is known and what is owed stays as it was.
+    /// Adds the slaves of a group that is declared after the others, absent: they get empty places, in memory that was
+    /// allocated before. It cannot fail. The known and the owed blocks of the line stay as they were.
     pub fn admit(&mut self, room: OwedRoom)
         requires { RegistersCanAdmit self.old room }
         ensures { (can : RegistersCanAdmit self.old room) → self.new ≡ register_state_of (known_over can.old can.known) (changed can.old (Declare can.group)) }

@@ -1,11 +1,11 @@
-//! `Tally`: how many blocks and registers each task waits for.
+//! `Tally`: the number of blocks and registers that each task waits for.
 ghost use Rattle.hc_owed.specs.Waiting.{CanCountIn, CanRecount, CanTakeOut, CountsIn, Recounts, TakesOut};
 
 use crate::area::JudgedArea;
 use crate::task_set::TaskSet;
 use hc_records::limits::TASKS;
 
-/// Takes the tasks of a set out of counts.
+/// Subtracts 1 from the counts of the tasks of a set.
 fn take_out(counts: &mut [u32; 8], set: TaskSet)
     requires { CanTakeOut counts.old set }
     ensures { TakesOut counts.old counts.new set }
@@ -21,7 +21,7 @@ fn take_out(counts: &mut [u32; 8], set: TaskSet)
     }
 }
 
-/// Counts the tasks of a set.
+/// Adds 1 to the counts of the tasks of a set.
 fn count_in(counts: &mut [u32; 8], set: TaskSet)
     requires { CanCountIn counts.old }
     ensures { CountsIn counts.old counts.new set }
@@ -37,7 +37,7 @@ fn count_in(counts: &mut [u32; 8], set: TaskSet)
     }
 }
 
-/// Takes the tasks of one set out of counts, and counts those of another.
+/// Subtracts 1 from the counts of the tasks of one set, and adds 1 to those of another.
 #[inline(always)]
 fn recount(counts: &mut [u32; 8], was: TaskSet, now: TaskSet)
     requires { CanRecount counts.old was }
@@ -50,7 +50,8 @@ fn recount(counts: &mut [u32; 8], was: TaskSet, now: TaskSet)
     count_in(counts, now);
 }
 
-/// Of each task how many owed blocks concern it, and how many registers of slaves outside the line, counted over areas.
+/// For each task the number of owed blocks that concern it, and the number of registers of slaves outside the line, counted
+/// over areas.
 #[derive(Clone, Copy, Debug)]
 pub(crate) struct Tally {
     pub(crate) blocks: [u32; 8],
@@ -64,7 +65,7 @@ impl Tally {
     ghost use Rattle.hc_owed.specs.Tally.{CanPut, Puts, counts_none};
     ghost use Rattle.hc_owed.specs.TaskSets.{tasks_where};
 
-    /// Takes what an area counts out of the counts, and counts another area in its place.
+    /// Removes an area from the counts, and counts another area in its place.
     pub(crate) fn replace(&mut self, was: JudgedArea, now: JudgedArea)
         requires { CanPut self.old was }
         ensures { Puts self.old self.new was now }
@@ -82,7 +83,8 @@ impl Tally {
         );
     }
 
-    /// Counts what is left of an area once a write of its sync manager's block was answered well: the block concerns no task.
+    /// Removes the sync manager's block of an area from the counts, once a write of it was answered well: it no longer concerns
+    /// a task.
     pub(crate) fn confirm_sync_manager(&mut self, was: JudgedArea)
         requires { CanPut self.old was }
         ensures { Puts self.old self.new was (sync_manager_confirmed was) }
@@ -90,8 +92,8 @@ impl Tally {
         take_out(&mut self.blocks, was.sync_manager_concerns());
     }
 
-    /// Counts what is left of an area once a write of its FMMU's block was answered well: neither the block nor a register outside the
-    /// line concerns a task.
+    /// Removes the FMMU's block of an area and its register from the counts, once a write of the block was answered well.
+    /// Neither the block nor a register outside the line concerns a task any more.
     pub(crate) fn confirm_fmmu(&mut self, was: JudgedArea)
         requires { CanPut self.old was }
         ensures { Puts self.old self.new was (fmmu_confirmed was) }
@@ -100,7 +102,7 @@ impl Tally {
         take_out(&mut self.registers, was.register_concerns());
     }
 
-    /// Whether nothing is counted for a task, 0 to 7.
+    /// True if nothing is counted for a task, 0 to 7.
     pub(crate) fn is_free(&self, task: u8) -> bool
         requires { task < TASKS }
         ensures { result ≡ counts_none self.now task }
@@ -109,7 +111,7 @@ impl Tally {
         self.blocks[at] == 0 && self.registers[at] == 0
     }
 
-    /// The tasks for which nothing is counted.
+    /// Returns the tasks with no count.
     pub(crate) fn free(&self) -> TaskSet
         ensures { result ≡ tasks_where (counts_none self.now) }
     {

@@ -26,7 +26,7 @@ impl TaskSet {
         TaskSet { bits: 0xff }
     }
 
-    /// One task alone; no task if there is none.
+    /// Returns one task alone, or no task for `None`.
     pub fn of(own: Option<u8>) -> TaskSet
         requires { IfSome own (λ task. task < TASKS) }
         ensures { result ≡ only_task own }
@@ -46,7 +46,7 @@ impl TaskSet {
         }
     }
 
-    /// The set with a task, 0 to 7, if it is to be added.
+    /// Returns the set with a task, 0 to 7, if it is to be added.
     pub fn with_task(self, task: u8, added: bool) -> TaskSet
         requires { task < TASKS }
         ensures { result ≡ tasks_where (λ other. has_task other self || (added && task == other)) }
@@ -58,7 +58,7 @@ impl TaskSet {
         }
     }
 
-    /// Whether a task, 0 to 7, is in the set.
+    /// True if a task, 0 to 7, is in the set.
     pub fn has(self, task: u8) -> bool
         requires { task < TASKS }
         ensures { result ≡ has_task task self }
@@ -66,7 +66,7 @@ impl TaskSet {
         self.bits >> task & 1 == 1
     }
 
-    /// Whether no task is in the set.
+    /// True if no task is in the set.
     pub fn is_empty(self) -> bool
         ensures { result ≡ not (some_task self) }
     {
@@ -82,7 +82,7 @@ impl TaskSet {
         }
     }
 
-    /// The set as a number: bit t is 1 if task t is in the set.
+    /// Returns the set as a number: bit t is 1 if task t is in the set.
     pub fn bits(self) -> u8
         ensures { result ≡ self.bits }
     {

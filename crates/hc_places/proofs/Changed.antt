@@ -49,7 +49,7 @@ place-none [] variable above = refl
 place-none (row ∷ rows) variable above =
     grind (arith, cond-false, above-apart, All-head, All-tail, place-none rows variable (All-tail (λ (r : VariableRow). variable < r.0) row rows above))
 
--- a variable is among the different ones exactly where its place differs
+-- a variable is among the different ones exactly if its place differs
 
 abbrev is_placed : Option VariablePlace → Bool
 is_placed found = option_map_or (λ place. true) found false

@@ -20,7 +20,7 @@ pub bits-drop : (entries : List Entry) (i : ℕ) (entry : Entry) → i < length 
 bits-drop entries i entry within is =
     ap entry_bits (drop_more entries i entry within ∙ ap (λ (e : Entry). e ∷ drop (i + 1) entries) (sym is)) ∙ bits-cons entry (drop (i + 1) entries)
 
--- entries after others begin where those end
+-- entries after others begin at the end of those
 variables-append : (bit : ℕ) (first second : List Entry) → variables_from bit (first ++ second) ≡ variables_from bit first ++ variables_from (bit + entry_bits first) second
 variables-append bit [] second = ap (λ start. variables_from start second) (omega arith)
 variables-append bit (entry ∷ first) second =

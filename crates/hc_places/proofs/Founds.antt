@@ -1,4 +1,4 @@
--- The variables of a task, where its areas are found under their keys.
+-- The variables of a task, if its areas are found under their keys.
 use Rattle.std.proofs.Common.{◌≡◌, ℕ, ◌+◌, ◌<◌, ◌≤◌, List, [], ◌∷◌, ◌++◌, length, get_or, refl, sym, ap, ◌∙◌, arith}
 use Rattle.std.specs.Prelude.{All, Option, Some, None, map}
 use Rattle.std.specs.Option.{option_map_or}
@@ -44,7 +44,7 @@ own-variables : (task : ℕ) (slaves : List (List Area)) (listed : Listed) (plac
 own-variables task slaves listed placed same names =
     ap (λ (found : Option Area). option_map_or (λ area. area_variables task (record { key = placed.key; area = area }, placed)) found []) (own-found slaves listed placed same names)
 
--- so the variables that are found are the areas'
+-- the variables that are found are the areas'
 pub found-all : (task : ℕ) (slaves : List (List Area)) (areas : List Listed) (places : List Placed) → map area_of places ≡ map keyed areas → All (NamesIn slaves) areas
     → flat_map (found_variables task slaves) places ≡ flat_map (area_variables task) (zip areas places)
 found-all task slaves [] [] same names = refl

@@ -63,7 +63,7 @@ task-replaced (c ∷ others) tasks task ascends =
     ∙ said-by (c.0 == task) c (find (λ (c : ChangedTask). c.0 == task) others) (slice_get tasks task)
     (λ here. none-said task others (rw (← (eqb-true c.0 task here)) (ascends-above c others ascends)))
 
--- a task is new as a change says, where no task comes or goes
+-- a task is new as a change says, if no task comes or goes
 
 as-many : {X : Type 0} (xs ys : List X) (i : ℕ) (y : X) → length xs ≡ length ys → slice_get ys i ≡ Some y → option_map (λ _. y) (slice_get xs i) ≡ Some y
 as-many [] [] i y same is = cc
@@ -139,7 +139,7 @@ change_of tasks rows = record { tasks = tasks; rows = rows }
 abbrev pub SamePlaces : List ChangedRow → List ChangedRow → Type 0
 SamePlaces rows given = (variable : ℕ) → find (λ (c : ChangedRow). c.0 == variable) rows ≡ find (λ (c : ChangedRow). c.0 == variable) given
 
--- so a swap leads where its rows say the same as those that were given
+-- a swap leads to the new table if its rows say the same as those that were given
 pub leads-said : (edit : Edit) (tasks unchanged : List ChangedTask) (given rows : List ChangedRow) → unchanged ≡ tasks → SamePlaces rows given → ChangesAscend tasks → ChangesAscend rows
     → LeadsAsSaid (change_of tasks given) (record { edit = edit; change = change_of unchanged rows })
 leads-said edit tasks unchanged given rows same places first second old new before after says =

@@ -1,4 +1,4 @@
--- Rows that are overwritten where they are are merged, where each changed variable keeps its row.
+-- Rows that are overwritten in place are merged, if each changed variable keeps its row.
 use Rattle.std.proofs.Common.{◌≡◌, ◌∙◌, ap, ℕ, ◌+◌, ◌<◌, Bool, true, false, cond, List, [], ◌∷◌, drop, drop-cons, get_or, length, map, refl, sym, subst, arith}
 use Rattle.std.specs.Prelude.{IsTrue, Option, Some, None, find, is_some, option_map, unwrap_or, ◌==◌, ◌&&◌}
 use Rattle.std.proofs.lemmas.Bool.{cond-true, cond-false, eq-eqb, eqb-true}

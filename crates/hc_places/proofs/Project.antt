@@ -1,4 +1,4 @@
--- What holds of the line of a project's groups.
+-- The line of a project's groups can be configured.
 use Rattle.std.specs.Prelude.{◌≡◌, ℕ, ◌≤◌, All, List, length}
 use Rattle.hc_records.specs.declared.limits.TheConstants.{MOST_SLAVES}
 use Rattle.hc_records.specs.declared.records.Slave.{Slave}

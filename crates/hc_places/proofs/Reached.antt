@@ -1,4 +1,4 @@
--- How many rows have lower numbers than a variable: counted among some of the rows, and the row after them.
+-- The number of rows with a lower number than a variable's, counted among some of the rows, and the row after them.
 use Rattle.std.proofs.Common.{◌≡◌, ◌∙◌, ap, ℕ, zero, suc, ◌+◌, ◌<◌, ◌≤◌, Bool, true, false, cond, List, [], ◌∷◌, drop, get_or, length, map, set, take, refl, sym, subst, arith}
 use Rattle.std.specs.Prelude.{Option, Some, None, ◌-◌, nat_lt, slice_get, unwrap_or, ◌==◌, ◌≢◌}
 use Rattle.std.specs.List.{AllWithin}
@@ -25,7 +25,7 @@ ascends-rises (row ∷ rows) ascends zero (suc j) d low within = let less = asce
 ascends-rises (row ∷ rows) ascends (suc i) zero d low within = absurd (omega arith)
 ascends-rises (row ∷ rows) ascends (suc i) (suc j) d low within = ascends-rises rows (ascends-rest row rows ascends) i j d (omega arith) (omega arith)
 
--- where a row has no lower number, none after it has
+-- if a row has no lower number, none after it has
 pub reached-row : (rows : List VariableRow) (variable reach : ℕ) (row : VariableRow) → RowsAscend rows → row ≡ get_or rows reach row → variable ≤ row.0 → (k : ℕ) (d : VariableRow) → reach ≤ k → k < length rows
     → nat_lt (get_or rows k d).0 variable ≡ false
 reached-row rows variable reach row ascends is reached k d low within =
@@ -65,7 +65,7 @@ own-answer_given rows variable index row ascends is own =
           (omega (arith, within)),
     )
 
--- those among the first rows are those of all, where none after these is lower
+-- the rows with a lower number among the first rows are those of all, if none after these is lower
 pub below-reached : (rows : List VariableRow) (variable reach count : ℕ) → count ≤ length (take reach rows) → AreBelow (take reach rows) variable count
     → ((k : ℕ) (d : VariableRow) → reach ≤ k → k < length rows → nat_lt (get_or rows k d).0 variable ≡ false) → AreBelow rows variable count
 below-reached rows variable reach count bound below after_it =
@@ -127,7 +127,7 @@ none-set changed (row ∷ rows) (suc at) ascends below none =
     ∙ ap (λ (l : List VariableRow). row_with changed row ∷ l)
     (none-set changed rows at (ascends-rest row rows ascends) (rest-below row rows changed.0 at below) (λ d within. none d (omega (arith, within))))
 
--- nothing is overwritten where there is no new place
+-- nothing is overwritten if there is no new place
 
 as-it-was : (own : Bool) (row : VariableRow) → row ≡ cond own (row.0, row.1) row
 as-it-was own row = grind arith

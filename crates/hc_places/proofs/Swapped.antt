@@ -1,4 +1,4 @@
--- Where the variables of a table are once some of them are changed, and that their places give a table.
+-- The places of a table's variables after some of them are changed. The places give the table.
 use Rattle.std.proofs.Common.{◌≡◌, ◌∙◌, ap, ℕ, ◌<◌, Bool, true, false, cond, List, [], ◌∷◌, ◌++◌, refl, sym, arith}
 use Rattle.std.specs.Prelude.{Option, Some, None, find, option_map, unwrap_or, ◌==◌}
 use Rattle.std.proofs.lemmas.Bool.{cond-true, eqb-true}
@@ -52,7 +52,7 @@ pub merged-rows-ascend : (others : List ChangedRow) (rows : List VariableRow) �
 merged-rows-ascend [] rows ascends = ascends
 merged-rows-ascend (changed ∷ others) rows ascends = with-ascends changed (merged others rows) (merged-rows-ascend others rows ascends)
 
--- where a variable is after a row
+-- the place of a variable after a row
 
 after_it-row : (here : Bool) (row : VariableRow) (found : Option VariableRow) → option_map (λ (r : VariableRow). r.1) (cond here (Some row) found) ≡ cond here (Some row.1) (option_map (λ (r : VariableRow). r.1) found)
 after_it-row here row found = grind arith
@@ -105,7 +105,7 @@ said-first : (here : Bool) (changed : ChangedRow) (found : Option ChangedRow) (o
     → cond here changed.1 (unwrap_or (option_map (λ (c : ChangedRow). c.1) found) old) ≡ unwrap_or (option_map (λ (c : ChangedRow). c.1) (cond here (Some changed) found)) old
 said-first here changed found old = grind arith
 
--- so of all changed variables
+-- each changed variable has its new place or none, any other its old one
 pub place-merged : (others : List ChangedRow) (rows : List VariableRow) (variable : ℕ) → RowsAscend rows
     → place_of (merged others rows) variable ≡ unwrap_or (option_map (λ (c : ChangedRow). c.1) (find (λ (c : ChangedRow). c.0 == variable) others)) (place_of rows variable)
 place-merged [] rows variable ascends = refl

@@ -1,4 +1,4 @@
--- The table of a task, the same as `task_table`, put together datagram by datagram, and what each datagram adds to it.
+-- The use of a task's datagrams by its areas, and the table of a task put together from these uses.
 use Rattle.std.specs.Prelude.{ℕ, zero, suc, ◌+◌, ◌-◌, ◌/◌, ◌≤◌, min, List, [], ◌∷◌, ◌++◌, None, find, length, map, slice_get}
 use Rattle.std.specs.Option.{option_map_or}
 use Rattle.hc_records.specs.declared.keys.Key.{Key}
@@ -16,7 +16,7 @@ use Rattle.hc_places.specs.Table.{Table, TaskTable}
 abbrev pub keys_inside : ℕ → List Placed → List Key
 keys_inside d areas = map (λ area. area.key) (inside d areas)
 
--- what the areas of a datagram add to its working counter, in their order
+-- the working counter of a datagram, as its areas add to it in their order
 abbrev pub counted_inside : ℕ → List Placed → ℕ
 counted_inside d areas = counted_from None (keys_inside d areas)
 
@@ -24,7 +24,7 @@ counted_inside d areas = counted_from None (keys_inside d areas)
 abbrev pub datagram_use_length : List Placed → ℕ
 datagram_use_length areas = (end_of areas + 7) / 8
 
--- what they make of the datagram: its bytes, what they add to its working counter, and how many of the bytes come before its first input
+-- the use of a datagram by these areas: its bytes, its working counter, and the number of its bytes before its first input
 abbrev pub datagram_use_of : List Placed → DatagramUse
 datagram_use_of areas = record {
   length = datagram_use_length areas;
@@ -32,7 +32,7 @@ datagram_use_of areas = record {
   outputs = option_map_or (λ area. area.bit / 8) (find (λ area. same_dir area.key.dir In) areas) (datagram_use_length areas);
 }
 
--- what a datagram of a task holds; nothing after the last one
+-- the use of a datagram of a task; no bytes after the last one
 abbrev pub datagram_use_in : List Placed → ℕ → DatagramUse
 datagram_use_in areas datagram = datagram_use_of (inside datagram areas)
 
@@ -71,7 +71,7 @@ loaded task areas (suc datagram) = with_datagram_use task (loaded task areas dat
 abbrev pub table_at : ℕ → List Placed → TaskTable
 table_at task areas = loaded task areas (datagram_count areas)
 
--- what a table says of it: a datagram's outputs are its bytes before the end of the task's outputs
+-- the use of a datagram by its task's table: its outputs are its bytes before the end of the task's outputs
 
 -- length, expected counter and output bytes of a datagram, by its task's table
 abbrev pub datagram_use_by_table : TaskTable → Datagram → DatagramUse
@@ -81,14 +81,15 @@ datagram_use_by_table table datagram = record {
   outputs = min (table.outputs - datagram.offset) datagram.length;
 }
 
--- what a datagram holds that isn't there: no bytes, no expected counter
+-- the use of a missing datagram: no bytes, no expected counter
 abbrev pub no_datagram_use : DatagramUse
 no_datagram_use = record { length = 0; expected = 0; outputs = 0 }
 
--- what a task's table says of the datagram with a number (`datagram_use_by_table`); `no_datagram_use` where it has no such datagram
+-- the use of the datagram with a number, by its task's table (`datagram_use_by_table`); `no_datagram_use` if the task has no
+-- such datagram
 abbrev pub datagram_use_in_table : TaskTable → ℕ → DatagramUse
 datagram_use_in_table table datagram = option_map_or (datagram_use_by_table table) (slice_get table.datagrams datagram) no_datagram_use
 
--- what a table says of a task's datagram with a number; `no_datagram_use` where there is no such task or datagram
+-- the use of a task's datagram with a number, by a table; `no_datagram_use` if there is no such task or datagram
 abbrev pub datagram_use_answered : Table → ℕ → ℕ → DatagramUse
 datagram_use_answered table task datagram = option_map_or (λ found. datagram_use_in_table found datagram) (slice_get table.tasks task) no_datagram_use

@@ -1,4 +1,4 @@
--- Where the areas of a line are.
+-- The layout of a line: the places of its areas.
 use Rattle.std.specs.Prelude.{ℕ, List, map, find, slice_get, option_and_then, option_map, Option, Some, ◌≡◌, ◌≢◌}
 use Rattle.hc_records.specs.declared.keys.Key.{Key}
 use Rattle.hc_records.specs.declared.faults.EditFault.{EditFault}

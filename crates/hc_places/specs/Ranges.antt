@@ -1,4 +1,4 @@
--- The ranges where a place and a datagram of a table lie.
+-- The ranges of a place and of a datagram of a table.
 use Rattle.std.specs.Prelude.{◌+◌, ◌*◌, ◌<◌, ◌≤◌, All}
 use Rattle.hc_records.specs.declared.limits.TheConstants.{MOST_AREA_BITS, MOST_DATAGRAMS, MOST_DATAGRAM_BYTES, MOST_ENTRY_BITS, TASKS}
 use Rattle.hc_records.specs.declared.records.Area.{Area}

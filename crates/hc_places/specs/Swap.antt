@@ -1,4 +1,4 @@
--- What turns the table of one epoch into the next one's.
+-- The change from the table of one epoch to that of the next.
 use Rattle.std.specs.Prelude.{ℕ, ◌==◌, ◌&&◌, not, nat_lt, Bool, true, false, if◌then◌else◌, List, [], ◌∷◌, ◌++◌, All, AllPairs, IsTrue, ◌<◌, ◌≤◌, ◌≡◌, ◌≢◌, ◌↔◌, filter, length, map, set, slice_get, Option, Some, None, is_some, option_map, unwrap_or, find}
 use Rattle.std.specs.Option.{option_map_or}
 use Rattle.std.specs.List.{list_any}
@@ -20,11 +20,11 @@ pub record Change : Type 0 where
   pub tasks : List ChangedTask
   pub rows : List ChangedRow
 
--- they are in the order of their numbers, each once
+-- changed tasks or variables are in the order of their numbers, each once
 abbrev pub ChangesAscend : {X : Type 0} → List (ℕ × X) → Type 0
 ChangesAscend changed = AllPairs (λ a b. a.0 < b.0) changed
 
--- a swap's tasks and its variables do
+-- the tasks of a change are in order, and so are its variables
 pub record IsInOrder (change : Change) : Type 0 where
   pub tasks : ChangesAscend change.tasks
   pub rows : ChangesAscend change.rows
@@ -54,7 +54,7 @@ merged (changed ∷ others) rows = with_changed changed (merged others rows)
 abbrev pub keeps_row : List VariableRow → ChangedRow → Bool
 keeps_row rows changed = is_some (find (λ row. row.0 == changed.0) rows) && is_some changed.1
 
--- so each changed variable does: none appears or goes
+-- each changed variable keeps its row: none appears or goes
 abbrev pub KeepRows : List VariableRow → List ChangedRow → Type 0
 KeepRows rows changed = All (λ change. IsTrue (keeps_row rows change)) changed
 
@@ -72,7 +72,7 @@ abbrev pub same_place : VariablePlace → VariablePlace → Bool
 same_place a b =
     (a.task == b.task) && (a.datagram == b.datagram) && (a.bit == b.bit) && (a.bits == b.bits) && same_dir a.dir b.dir
 
--- and so are two that may be lacking
+-- two places, each of which may be missing, are the same
 abbrev pub same_found : Option VariablePlace → Option VariablePlace → Bool
 same_found None None = true
 same_found None (Some b) = false
@@ -96,11 +96,11 @@ abbrev pub changed_variables : Table → Table → List ℕ
 changed_variables old new =
     filter (λ variable. not (same_found (place_in old variable) (place_in new variable))) (variables_of_both old new)
 
--- the entry of a list for a number, if the list names the number
+-- the new place of a variable, or that it has none, if that is not its old place
 abbrev pub said_of : {X : Type 0} → List (ℕ × X) → ℕ → Option X
 said_of list number = option_map (λ entry. entry.1) (find (λ entry. entry.0 == number) list)
 
--- the new table that a change names for a task: none if the old and new tables are equal, else the new one
+-- the new place of a variable by a change, or that it has none; nothing if it is not among the change's rows
 abbrev pub IsDifference : Option TaskTable → Option TaskTable → Option TaskTable → Type 0
 IsDifference old new None = old ≡ new
 IsDifference old new (Some said) = (new ≡ Some said) × (old ≢ new)
@@ -118,42 +118,44 @@ pub record SaysWhatDiffers (old new : Table) (change : Change) : Type 0 where
 abbrev pub AreOnce : List ChangedRow → Type 0
 AreOnce rows = (variable : ℕ) → length (filter (λ changed. changed.0 == variable) rows) ≤ 1
 
--- how many variables a swap changes
+-- the number of variables that a swap changes
 abbrev pub changed_places : Swap → ℕ
 changed_places swap = length swap.change.rows
 
--- a swap leads from one table to another, and carries what differs and nothing else
+-- a swap leads from one table to another, and carries the differences and nothing else
 pub record Leads (old new : Table) (swap : Swap) : Type 0 where
   pub leads : swapped swap.change old ≡ new
   pub says : SaysWhatDiffers old new swap.change
   pub count : changed_places swap ≡ length (changed_variables old new)
 
--- so it does from any table to any other between which it says what differs
+-- a swap leads from any table to any other, if the change states the differences between them
 abbrev pub LeadsAsSaid : Change → Swap → Type 0
 LeadsAsSaid said swap = (old new : Table) → IsTable old → IsTable new → SaysWhatDiffers old new said → Leads old new swap
 
--- a variable is among the changed ones of two tables exactly where its place differs
+-- a variable is among the changed ones of two tables exactly if its place differs
 abbrev pub ChangedVariablesDiffer : Type 0
 ChangedVariablesDiffer =
     (old new : Table) (variable : ℕ)
     → (list_any (λ changed. changed == variable) (changed_variables old new) ≡ true) ↔ (place_in old variable ≢ place_in new variable)
 
--- and each is there once
+-- each changed variable of two tables is among them once
 abbrev pub ChangedVariablesOccurOnce : Type 0
 ChangedVariablesOccurOnce =
     (old new : Table) → RowsAscend old.variables → RowsAscend new.variables → AllPairs (λ a b. a ≢ b) (changed_variables old new)
 
--- in the table that a change leads to, a variable is where the change says, and where it was if the change says nothing
+-- in the table that a change leads to, a variable has the place that the change says, and the one that it had if the change
+-- says nothing
 abbrev pub SwapsMoveTheirVariables : Type 0
 SwapsMoveTheirVariables =
     (change : Change) (table : Table) → RowsAscend table.variables → (variable : ℕ)
     → place_in (swapped change table) variable ≡ unwrap_or (said_of change.rows variable) (place_in table variable)
 
--- its rows ascend again
+-- the rows of the table that a change leads to ascend, if those of the table before do
 abbrev pub SwapsKeepTheOrder : Type 0
 SwapsKeepTheOrder = (change : Change) (table : Table) → RowsAscend table.variables → RowsAscend (swapped change table).variables
 
--- and so a task has the table that the change says, and the one that it had if the change says nothing
+-- in the table that a change leads to, a task has the table that the change says, and the one that it had if the change says
+-- nothing
 abbrev pub SwapsReplaceTheirTasks : Type 0
 SwapsReplaceTheirTasks =
     (change : Change) (table : Table) → ChangesAscend change.tasks → (task : ℕ)

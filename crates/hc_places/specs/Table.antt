@@ -53,21 +53,21 @@ pub record Table : Type 0 where
   pub tasks : List TaskTable
   pub variables : List VariableRow
 
--- what holds of each table that is kept
+-- the invariant of a table
 pub record IsTable (table : Table) : Type 0 where
   pub eight : length table.tasks ≡ TASKS
   pub ascends : RowsAscend table.variables
 
--- the table of a line: its eight tasks, and where each variable of it is
+-- the table of a line: its eight tasks, and the place of each of its variables
 abbrev pub table_of : List Member → Table
 table_of line = record {
   tasks = map (task_table line) tasks;
   variables = by_number (flat_map (task_variables line) tasks);
 }
 
--- what a table answers
+-- the look-ups of a table
 
--- where a variable is; none where it has no row
+-- the place of a variable; none if it has no row
 abbrev pub place_in : Table → ℕ → Option VariablePlace
 place_in table variable = option_map (λ row. row.1) (find (λ row. row.0 == variable) table.variables)
 

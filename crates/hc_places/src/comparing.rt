@@ -10,8 +10,8 @@ impl Places {
     ghost use Rattle.hc_records.specs.declared.limits.TheConstants.{TASKS};
     ghost use Rattle.hc_places.specs.Swap.{ChangesAscend, AreDifferences};
 
-    /// The tasks whose tables differ from these eight new ones, with their new ones, in the order of their
-    /// numbers. `AllocError` where a growth was refused.
+    /// Returns the tasks whose tables differ from these eight new ones, with their new ones, in the order of their numbers.
+    /// Fails with `AllocError` if an allocation fails.
     pub fn changed_tasks(
         &self,
         alloc: Global,

@@ -1,4 +1,4 @@
-//! A line opened: its tasks are cut from nothing, and its table is made from them.
+//! `open_line`: the opening of a line. Its tasks are cut from nothing, and its table is made from them.
 ghost use Rattle.std.specs.Prelude.{◌≡◌, IfErr, IfOk, None, OnOk};
 ghost use Rattle.hc_records.specs.Edits.{over_limit_task};
 ghost use Rattle.hc_records.specs.Line.{groups_of, line_from};
@@ -22,17 +22,17 @@ use hc_records::task::Task;
 use std::alloc::{AllocError, Global};
 use std::sync::ledger::{Blank, Ledger};
 
-/// A line at its opening: the trees of its tasks, and where its datagrams and its variables are.
+/// A line at its opening: the trees of its tasks, and the places of its datagrams and variables.
 #[derive(Drop)]
 pub struct OpenedLine {
-    /// The tasks as they are kept.
+    /// The trees of the tasks.
     pub cuts: LineCuts,
     /// The datagrams and the variables.
     pub places: Places,
 }
 
-/// The table of a line from the areas of its slaves by rank and the tasks that were opened for them. `AllocError`
-/// where a growth was refused.
+/// Returns the table of a line from the areas of its slaves by rank and the tasks that were opened for them. Fails with
+/// `AllocError` if an allocation fails.
 fn opened_places(
     alloc: Global,
     slaves: &[SlaveAreas],
@@ -51,9 +51,9 @@ fn opened_places(
     Places::of(tables, rows)
 }
 
-/// Configures the line of declared groups from nothing: the areas of each datagram are gone over from a
-/// boundary of its task to the next. The groups are a project's: no fault's condition holds. Otherwise
-/// `TooManyDatagrams` with the lowest task that needs more than 16, or `Memory` where a growth was refused.
+/// Configures the line of declared groups from nothing, and goes over the areas of each datagram from a boundary of its task to
+/// the next. The groups are a project's: no fault's condition holds. Fails with `TooManyDatagrams` and the lowest task that
+/// needs more than 16 datagrams, or with `Memory` if an allocation fails.
 pub fn open_line<L: Ledger>(
     alloc: Global,
     groups: &[Declared],

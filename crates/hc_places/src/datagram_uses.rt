@@ -1,4 +1,4 @@
-//! What the datagrams of a task hold; its table is put together from it.
+//! `DatagramUse`: the bytes and counters of a datagram, from which the table of a task is put together.
 ghost use Rattle.std.specs.Prelude.{◌≡◌, ◌<◌, ◌≤◌, All, find};
 ghost use Rattle.hc_records.specs.Image.{inside};
 ghost use Rattle.hc_records.specs.Keys.{same_dir};
@@ -16,9 +16,9 @@ use hc_records::task::Task;
 use hc_registers::counters::added_count;
 use hc_registers::fmmu::logical_address;
 
-/// What a datagram holds: its bytes, 0 where there is no such datagram and else 1 to 1,486; the working
-/// counter that it comes back with when every slave of the line has processed it; and how many of its bytes
-/// come before its first input, all of them where it has none.
+/// The use of a datagram by areas: its bytes, its expected working counter, and the number of its bytes before its first input.
+/// The bytes are 1 to 1,486, or 0 if there is no such datagram. The datagram comes back with the expected counter when every
+/// slave of the line has processed it. If it has no input, all its bytes come before the first one.
 #[derive(Clone, Copy, Default)]
 pub struct DatagramUse {
     pub length: u16,
@@ -73,7 +73,7 @@ impl DatagramUse {
     ghost use Rattle.hc_places.specs.DatagramUses.{IsDatagramUse, datagram_use_in};
     ghost use Rattle.hc_places.specs.DatagramUses.{counted_inside};
 
-    /// What the datagram with a number holds of areas, which may lie in other datagrams too.
+    /// Returns the use of the datagram with a number by areas, which may lie in other datagrams too.
     pub fn of(areas: &[Placed], number: u16) -> DatagramUse
         requires inside { All LiesInside areas.now }
         requires counted { counted_inside number areas.now < 65536 }
@@ -108,8 +108,8 @@ impl TaskTable {
         }
     }
 
-    /// Adds a datagram of a task that has some bytes, after the others. There are fewer than 16
-    /// others, with at most 1,486 bytes each.
+    /// Adds a datagram with at least one byte after the others of a task. There are fewer than 16 others, with at most 1,486
+    /// bytes each.
     pub fn add(&mut self, task: Task, datagram_use: DatagramUse)
         requires few { length self.old.datagrams < MOST_DATAGRAMS }
         requires short { self.old.outputs + self.old.inputs ≤ length self.old.datagrams * MOST_DATAGRAM_BYTES }
@@ -127,7 +127,7 @@ impl TaskTable {
         self.inputs += datagram_use.length - datagram_use.outputs;
     }
 
-    /// What the datagram with a number holds; nothing where there is none.
+    /// Returns the use of the datagram with a number; all 0 if there is none.
     fn datagram_use(&self, number: u16) -> DatagramUse
         ensures value { result ≡ datagram_use_in_table self.now number }
         ensures low { IsDatagramUse result }
@@ -150,7 +150,7 @@ impl Places {
     ghost use Rattle.std.specs.Prelude.{◌≡◌};
     ghost use Rattle.hc_places.specs.DatagramUses.{IsDatagramUse, datagram_use_answered};
 
-    /// What a datagram of a task holds; nothing where the task has fewer, or there is no such task.
+    /// Returns the use of a datagram of a task; all 0 if the task has fewer, or if there is no such task.
     pub fn datagram_use(&self, task: u8, number: u16) -> DatagramUse
         ensures value { result ≡ datagram_use_answered self.now task number }
         ensures low { IsDatagramUse result }

@@ -9,7 +9,7 @@ use crate::table::TaskTable;
 use hc_cuts::packing::Placed;
 use hc_records::task::Task;
 
-/// How many datagrams the areas take.
+/// Returns the number of datagrams that the areas take.
 fn datagram_count(areas: &[Placed]) -> usize
     ensures { result ≡ datagram_count areas.now }
 {
@@ -20,7 +20,7 @@ fn datagram_count(areas: &[Placed]) -> usize
     count
 }
 
-/// The table of a task by the places of its areas.
+/// Returns the table of a task from the places of its areas.
 pub(crate) fn task_table(task: Task, areas: &[Placed]) -> TaskTable
     requires { AreSendable areas.now }
     ensures { result ≡ table_at task areas.now }

@@ -1,6 +1,5 @@
-//! Where everything of a line is: the areas in their datagrams, the datagrams in the image of a
-//! task, and the variables in both. The plan configures a line by it; the core and the views look
-//! places up.
+//! The places of a line: of the areas in their datagrams, of the datagrams in the image of a task, and of the variables in
+//! both. The plan configures a line with it; the core and the views look places up.
 #![tactic(auto)]
 
 mod comparing;

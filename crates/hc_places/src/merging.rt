@@ -1,5 +1,5 @@
-//! Rows and changes, both in the order of their numbers: merged into memory that has the room, and rows
-//! counted and overwritten where they are.
+//! Rows and changes, both in the order of their variables' numbers: they are merged into memory with room for all, or rows are
+//! counted and overwritten in place.
 ghost use Rattle.std.specs.Prelude.{◌≡◌, ◌+◌, ◌≤◌, ◌<◌, ◌++◌, ◌↔◌, [], IsTrue, false, length, map, option_to_list, true, vec_capacity};
 ghost use Rattle.std.specs.List.{AllWithin};
 ghost use Rattle.hc_places.specs.inner.Overwritten.{AreBelow, EndsLower, NextIsNotLower, rows_overwritten, row_with};
@@ -19,8 +19,7 @@ fn new_row(changed: &ChangedRow) -> Option<VariableRow>
     Some((changed.variable(), place))
 }
 
-/// The row that a change leaves of the variable with the lowest number, and what is left of the
-/// changes and of the rows.
+/// Returns the row that is left of the variable with the lowest number, if any, and the changes and the rows after it.
 fn next_row<'a>(
     changed: &'a [ChangedRow],
     old: &'a [VariableRow],
@@ -44,7 +43,7 @@ fn next_row<'a>(
     }
 }
 
-/// Puts a table's rows with changes into memory that has the room.
+/// Merges a table's rows and changes into memory with room for all.
 pub(crate) fn merge(
     into: Vec<VariableRow>,
     changed: &[ChangedRow],
@@ -69,8 +68,8 @@ pub(crate) fn merge(
     rows
 }
 
-/// How many rows have a lower number than a variable; mostly there are few: as many rows are looked
-/// at as reach it, doubled until they do.
+/// Returns the number of rows with a lower number than a variable's. It suits few such rows: it doubles a range of rows until
+/// the range reaches the variable.
 pub(crate) fn count_near(rows: &[VariableRow], variable: VarId) -> usize
     requires { RowsAscend rows.now }
     ensures bound { result ≤ length rows.now }
@@ -86,7 +85,7 @@ pub(crate) fn count_near(rows: &[VariableRow], variable: VarId) -> usize
     count_below(&rows[..reach], variable)
 }
 
-/// Returns how many rows have a lower number than a variable, of which `front` are known to.
+/// Returns the number of rows with a lower number than a variable's, of which the first `front` are known.
 pub(crate) fn count_from(rows: &[VariableRow], front: usize, variable: VarId) -> usize
     requires ascends { RowsAscend rows.now }
     requires front { front ≤ length rows.now }
@@ -97,7 +96,7 @@ pub(crate) fn count_from(rows: &[VariableRow], front: usize, variable: VarId) ->
     front + count_near(&rows[front..], variable)
 }
 
-/// Whether the last of so many rows has a lower number than a variable, if there is one.
+/// True if the last of so many rows has a lower number than a variable's, or if there are none.
 fn ends_lower(rows: &[VariableRow], count: usize, variable: VarId) -> bool
     requires { count ≤ length rows.now }
     ensures { result ≡ true → EndsLower rows.now variable count }
@@ -108,7 +107,7 @@ fn ends_lower(rows: &[VariableRow], count: usize, variable: VarId) -> bool
     rows[count - 1].0.number() < variable.number()
 }
 
-/// Whether the row after so many has a lower number than a variable.
+/// True if the row after so many has a lower number than a variable's.
 fn goes_on_lower(rows: &[VariableRow], count: usize, variable: VarId) -> bool
     ensures { result ≡ false → NextIsNotLower rows.now variable count }
 {
@@ -118,7 +117,7 @@ fn goes_on_lower(rows: &[VariableRow], count: usize, variable: VarId) -> bool
     }
 }
 
-/// Whether so many rows have a lower number than a variable, and no others.
+/// True if exactly so many rows have a lower number than a variable's.
 fn is_count_below(rows: &[VariableRow], count: usize, variable: VarId) -> bool
     requires { RowsAscend rows.now }
     ensures { result ≡ true → (count ≤ length rows.now) × AreBelow rows.now variable count }
@@ -132,7 +131,7 @@ fn is_count_below(rows: &[VariableRow], count: usize, variable: VarId) -> bool
     !goes_on_lower(rows, count, variable)
 }
 
-/// Whether the row with an index is a variable's.
+/// True if the row with an index is the variable's.
 fn is_row_of(rows: &[VariableRow], index: usize, variable: VarId) -> bool
     requires { RowsAscend rows.now }
     ensures { result ≡ true → (index ≤ length rows.now) × AreBelow rows.now variable index }
@@ -143,8 +142,8 @@ fn is_row_of(rows: &[VariableRow], index: usize, variable: VarId) -> bool
     }
 }
 
-/// How many rows have a lower number than a changed variable, where so many are known to have: as the change gives,
-/// or else by a search.
+/// Returns the number of rows with a lower number than a changed variable's. It is the number that the change has, if that is
+/// right; otherwise it is searched for after the first `front` rows, which are known to be lower.
 #[inline(always)]
 pub(crate) fn find_row(rows: &[VariableRow], front: usize, changed: &ChangedRow) -> usize
     requires ascends { RowsAscend rows.now }
@@ -162,7 +161,7 @@ pub(crate) fn find_row(rows: &[VariableRow], front: usize, changed: &ChangedRow)
     }
 }
 
-/// How many rows have no higher number than a variable, where so many have a lower one.
+/// Returns the number of rows with no higher number than a variable's, of which `below` have a lower one.
 pub(crate) fn count_with(rows: &[VariableRow], below: usize, variable: VarId) -> usize
     requires ascends { RowsAscend rows.now }
     requires bound { below ≤ length rows.now }
@@ -178,7 +177,7 @@ pub(crate) fn count_with(rows: &[VariableRow], below: usize, variable: VarId) ->
     }
 }
 
-/// Whether a changed variable keeps its row, which is after those of lower numbers.
+/// True if a changed variable has a row, which is after those of lower numbers, and keeps it.
 pub(crate) fn keeps_row(rows: &[VariableRow], at: usize, changed: &ChangedRow) -> bool
     requires ascends { RowsAscend rows.now }
     requires below { AreBelow rows.now changed.now.0 at }
@@ -190,7 +189,7 @@ pub(crate) fn keeps_row(rows: &[VariableRow], at: usize, changed: &ChangedRow) -
     row.0 == changed.variable() && changed.place().is_some()
 }
 
-/// Whether each changed variable keeps its row.
+/// True if each changed variable has a row and keeps it.
 #[inline(always)]
 pub(crate) fn keep_rows(rows: &[VariableRow], changed: &[ChangedRow]) -> bool
     requires ascends { RowsAscend rows.now }
@@ -208,8 +207,7 @@ pub(crate) fn keep_rows(rows: &[VariableRow], changed: &[ChangedRow]) -> bool
     true
 }
 
-/// Puts a changed variable's new place, if any, into its row, if any, which is after those of lower
-/// numbers.
+/// Puts a changed variable's new place, if any, into its row, if any, which is after those of lower numbers.
 fn overwrite_row(rows: &mut Vec<VariableRow>, at: usize, changed: &ChangedRow)
     requires ascends { RowsAscend rows.old.items }
     requires below { AreBelow rows.old.items changed.now.0 at }
@@ -223,7 +221,7 @@ fn overwrite_row(rows: &mut Vec<VariableRow>, at: usize, changed: &ChangedRow)
     }
 }
 
-/// Puts the new places of changed variables into their rows; no row comes or goes.
+/// Puts the new places of changed variables into their rows. No row is added or removed.
 #[inline(always)]
 pub(crate) fn overwrite(rows: &mut Vec<VariableRow>, changed: &[ChangedRow])
     requires ascends { RowsAscend rows.old.items }

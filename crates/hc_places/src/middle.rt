@@ -1,5 +1,5 @@
-//! A table's rows with changes, where some bring or take rows: what lies from the first of these to the
-//! last is merged aside and put back, and the rest is overwritten where it is.
+//! Changes to a table's rows of which some add or remove rows. The rows from the first such change to the last are merged aside
+//! and put back, and the others are overwritten in place.
 ghost use Rattle.std.specs.Prelude.{◌≡◌, ◌+◌, ◌-◌, ◌≤◌, ◌++◌, [], IsTrue, drop, length, slice_range, take, vec_capacity};
 ghost use Rattle.std.specs.List.{AllWithin};
 ghost use Rattle.hc_places.specs.Swap.{ChangesAscend, keeps_row, merged};
@@ -9,8 +9,8 @@ use crate::merging::{count_near, count_with, find_row, keeps_row, merge, overwri
 use crate::swap::ChangedRow;
 use crate::table::VariableRow;
 
-/// How many changes are before the first that brings or takes a row, and how many up to the last, which
-/// is among them; 0 and 0 where none does.
+/// Returns the number of changes before the first that adds or removes a row, and the number up to and with the last such
+/// change; 0 and 0 if there is none.
 fn find_middle(rows: &[VariableRow], changed: &[ChangedRow]) -> (usize, usize)
     requires ascends { RowsAscend rows.now }
     requires changes { ChangesAscend changed.now }
@@ -34,7 +34,7 @@ fn find_middle(rows: &[VariableRow], changed: &[ChangedRow]) -> (usize, usize)
     (first, end)
 }
 
-/// How many rows have lower numbers than all changes, and how many no higher number than the last.
+/// Returns the number of rows with lower numbers than all changes, and the number with no higher number than the last change.
 fn find_rows(rows: &[VariableRow], changed: &[ChangedRow]) -> (usize, usize)
     requires ascends { RowsAscend rows.now }
     requires changes { ChangesAscend changed.now }
@@ -54,7 +54,7 @@ fn find_rows(rows: &[VariableRow], changed: &[ChangedRow]) -> (usize, usize)
     )
 }
 
-/// Shifts the rows after the first `high` up by as many as `more` are, into room that there is.
+/// Shifts the rows after the first `high` up by the length of `more`. The capacity suffices.
 fn widen(rows: &mut Vec<VariableRow>, high: usize, more: &[VariableRow])
     requires bound { high ≤ length rows.old.items }
     requires room { length rows.old.items + length more.now ≤ vec_capacity rows.old }
@@ -67,7 +67,7 @@ fn widen(rows: &mut Vec<VariableRow>, high: usize, more: &[VariableRow])
     rows.copy_within(high..count, high + more.len());
 }
 
-/// Puts rows after others, into room that there is.
+/// Adds rows after others. The capacity suffices.
 fn append(rows: &mut Vec<VariableRow>, more: &[VariableRow])
     requires room { length rows.old.items + length more.now ≤ vec_capacity rows.old }
     ensures { rows.new.items ≡ rows.old.items ++ more.now }
@@ -77,7 +77,7 @@ fn append(rows: &mut Vec<VariableRow>, more: &[VariableRow])
     }
 }
 
-/// Takes the rows after the first `low` out, up to the first `high`.
+/// Removes the rows after the first `low`, up to the first `high`.
 fn narrow(rows: &mut Vec<VariableRow>, low: usize, high: usize)
     requires order { low ≤ high }
     requires bound { high ≤ length rows.old.items }
@@ -88,8 +88,7 @@ fn narrow(rows: &mut Vec<VariableRow>, low: usize, high: usize)
     rows.truncate(count - (high - low));
 }
 
-/// Shifts the rows after the first `high`, so that as many as `new` are lie between these and the first
-/// `low`.
+/// Shifts the rows after the first `high`, so that as many rows as `new` has lie between them and the first `low`.
 fn make_place(rows: &mut Vec<VariableRow>, low: usize, high: usize, new: &[VariableRow])
     requires order { low ≤ high }
     requires bound { high ≤ length rows.old.items }
@@ -106,7 +105,7 @@ fn make_place(rows: &mut Vec<VariableRow>, low: usize, high: usize, new: &[Varia
     }
 }
 
-/// Writes rows over those after the first `low`.
+/// Writes new rows over those after the first `low`.
 fn lay(rows: &mut [VariableRow], low: usize, new: &[VariableRow])
     requires { low + length new.now ≤ length rows.old }
     ensures { rows.new ≡ take low rows.old ++ (new.now ++ drop (low + length new.now) rows.old) }
@@ -114,8 +113,7 @@ fn lay(rows: &mut [VariableRow], low: usize, new: &[VariableRow])
     rows[low..low + new.len()].copy_from_slice(new);
 }
 
-/// Puts new rows in the place of those after the first `low`, up to the first `high`, into room that there
-/// is.
+/// Replaces the rows after the first `low`, up to the first `high`, with new ones. The capacity suffices.
 fn replace_rows(rows: &mut Vec<VariableRow>, low: usize, high: usize, new: &[VariableRow])
     requires order { low ≤ high }
     requires bound { high ≤ length rows.old.items }
@@ -126,9 +124,9 @@ fn replace_rows(rows: &mut Vec<VariableRow>, low: usize, high: usize, new: &[Var
     lay(rows.as_mut_slice(), low, new);
 }
 
-/// Makes rows those with changes, with the help of memory that has room for all: those from the first
-/// change to the last are merged there and put back, or where the rows' own memory may have no room for as
-/// many more as there are changes, all are merged there and stay.
+/// Changes rows, with the help of memory that has room for all. If the rows' own capacity has room for one more for each
+/// change, the rows from the first change to the last are merged in that memory and put back. Otherwise all rows are merged
+/// there, and stay there.
 fn merge_rows(rows: &mut Vec<VariableRow>, changed: &[ChangedRow], into: Vec<VariableRow>)
     requires ascends { RowsAscend rows.old.items }
     requires changes { ChangesAscend changed.now }

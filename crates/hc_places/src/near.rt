@@ -1,5 +1,5 @@
-//! Variables that are looked up one after another, each near the one before, and changed ones, whose old rows are
-//! reported.
+//! Look-ups of variables one after another, each near the one before, and of changed variables by the rows that the changes
+//! report.
 ghost use Rattle.std.specs.Prelude.{◌≡◌, ◌≤◌, length};
 ghost use Rattle.hc_places.specs.inner.Overwritten.{AreBelow};
 ghost use Rattle.hc_places.specs.Table.{RowsAscend};
@@ -9,8 +9,8 @@ use crate::swap::ChangedRow;
 use crate::table::{Place, Places, VariableRow, count_below, place_at};
 use hc_records::records::VarId;
 
-/// How many rows have a lower number than a variable, looked for from a number of rows on if all before
-/// it have.
+/// Returns the number of rows with a lower number than a variable's. It searches after the first `near` rows if all of these
+/// have a lower number, otherwise among all rows.
 fn count_beside(rows: &[VariableRow], near: usize, variable: VarId) -> usize
     requires { RowsAscend rows.now }
     ensures bound { result ≤ length rows.now }
@@ -26,9 +26,9 @@ impl Places {
     ghost use Rattle.std.specs.Prelude.{◌≡◌};
     ghost use Rattle.hc_places.specs.Table.{place_in};
 
-    /// Where a variable is, as `place` gives it. `near` is where the one before it was found, or any other
-    /// number, and says afterwards where this one was: variables that are looked up in the order of their
-    /// numbers are found in few steps each. It takes no memory.
+    /// Returns the place of a variable, as `place` does. `near` is the row of the variable that was looked up before, or any
+    /// other number, and is afterwards the row of this one. Variables that are looked up in the order of their numbers are
+    /// found in few steps each. It allocates nothing.
     pub fn place_near(&self, near: &mut usize, variable: VarId) -> Option<Place>
         ensures { result ≡ place_in self.now variable }
     {
@@ -38,8 +38,8 @@ impl Places {
         place_at(rows, at, variable)
     }
 
-    /// Where a changed variable is, as `place` gives it: without a search in the table that the change was made for. It
-    /// takes no memory.
+    /// Returns the place of a changed variable, as `place` does. In the table that the change was made for it needs no search.
+    /// It allocates nothing.
     pub fn old_place(&self, changed: &ChangedRow) -> Option<Place>
         ensures { result ≡ place_in self.now changed.now.0 }
     {

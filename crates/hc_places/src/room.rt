@@ -1,5 +1,4 @@
-//! A swap carried out on a table: the memory that it needs is taken first, then nothing can be
-//! refused.
+//! A swap carried out on a table: `room_for` allocates the memory, and `carry_out` cannot fail.
 ghost use Rattle.std.specs.Prelude.{◌≡◌, ◌+◌, ◌≤◌, [], IfSome, length, vec_capacity};
 ghost use Rattle.hc_records.specs.declared.limits.TheConstants.{TASKS};
 ghost use Rattle.std.specs.Option.{MatchOption};
@@ -14,8 +13,8 @@ use hc_records::items::Items;
 use std::alloc::{AllocError, Global};
 use std::marker::Model;
 
-/// The memory that carrying a swap out on a table needs: none where no variable appears or goes, else
-/// memory for as many rows as the table will have, or more.
+/// The memory for carrying out a swap on a table: none if no variable appears or goes, otherwise memory for as many rows as the
+/// table will have, or more.
 #[derive(Drop)]
 pub struct Room {
     rows: Option<Vec<VariableRow>>,
@@ -31,7 +30,7 @@ impl Model for Room {
     ghost invariant = { λ room. IfSome room.rows (λ rows. rows.items ≡ []) };
 }
 
-/// Puts changed tasks in the place of those with their numbers.
+/// Replaces the tables of changed tasks.
 fn replace_tasks(tasks: &mut Items<TaskTable>, changed: &[ChangedTask])
     requires { length tasks.old ≡ TASKS }
     ensures { tasks.new ≡ tasks_replaced changed.now tasks.old }
@@ -41,8 +40,7 @@ fn replace_tasks(tasks: &mut Items<TaskTable>, changed: &[ChangedTask])
     }
 }
 
-/// Makes a table's rows those with changes: where they are, if no memory is given, else with the help of
-/// memory that has room for all.
+/// Changes a table's rows: in place if no memory is given, otherwise with the help of memory that has room for all.
 #[inline(always)]
 fn change_rows(rows: &mut Vec<VariableRow>, changed: &[ChangedRow], room: Option<Vec<VariableRow>>)
     requires ascends { RowsAscend rows.old.items }
@@ -57,9 +55,8 @@ fn change_rows(rows: &mut Vec<VariableRow>, changed: &[ChangedRow], room: Option
     }
 }
 
-/// How many rows the memory for a table's change is taken for: all that there may be, and as many again
-/// where the table's own memory may have no room for them, so that this memory, its own from then on, has
-/// room for more.
+/// Returns the number of rows to allocate for a table's change: all that there may be. It is twice that if the table's own
+/// capacity may be too small, so that this memory, the table's from then on, has room for more.
 fn room_size(rows: &Vec<VariableRow>, changed: &[ChangedRow]) -> usize
     ensures { length rows.now.items + length changed.now ≤ result }
 {
@@ -76,9 +73,8 @@ impl Places {
     ghost use Rattle.hc_places.specs.Room.{IsRowRoomFor};
     ghost use Rattle.hc_places.specs.Swap.{KeepRows, swapped};
 
-    /// The memory that `carry_out` needs for a swap of this table: none where no variable appears or goes,
-    /// else memory for as many rows as the table will have, or more. `AllocError` where a growth was
-    /// refused.
+    /// Allocates the memory that `carry_out` needs for a swap of this table: none if no variable appears or goes, otherwise
+    /// memory for as many rows as the table will have, or more. Fails with `AllocError` if the allocation fails.
     #[inline(always)]
     pub fn room_for(&self, alloc: Global, swap: &Swap) -> Result<Room, AllocError>
         ensures room { IfOk result (IsRowRoomFor swap.now.change self.now) }
@@ -92,11 +88,11 @@ impl Places {
         Ok(Room { rows: Some(room) })
     }
 
-    /// Becomes the table that a swap leads to, in memory that was taken before: nothing can be refused. The
-    /// rows of changed variables are looked up. Before the first variable that appears or goes, and after the
-    /// last, they are overwritten where they are; those between are merged in the room and put back, and the
-    /// rows after are shifted once. Where the table's memory may have no room for them, all rows are merged in
-    /// the room, which is the table's from then on. Either way no row is merged twice.
+    /// Changes this table to the one that a swap leads to, in memory that was allocated before. It cannot fail. The rows of
+    /// changed variables are looked up. Before the first variable that appears or goes, and after the last, they are
+    /// overwritten in place. The rows between are merged in the room and put back, and the rows after them are shifted once.
+    /// Exception: if the table's capacity may be too small, all rows are merged in the room, which becomes the table's memory.
+    /// No row is merged twice.
     #[inline(always)]
     pub fn carry_out(&mut self, swap: &Swap, room: Room)
         requires { IsRowRoomFor swap.now.change self.old room }
@@ -107,8 +103,8 @@ impl Places {
         replace_tasks(&mut self.tasks, swap.tasks.as_slice());
     }
 
-    /// Becomes the table that a swap leads to, or `AllocError` where a growth was refused; then this
-    /// table stays as it was.
+    /// Changes this table to the one that a swap leads to. Fails with `AllocError` if an allocation fails; the table then stays
+    /// as it was.
     pub fn swap(&mut self, alloc: Global, swap: &Swap) -> Result<(), AllocError>
         ensures swapped { OnOk result (self.new ≡ swapped swap.now.change self.old) }
         ensures refused { OnErr result (self.new ≡ self.old) }

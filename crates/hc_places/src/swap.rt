@@ -1,4 +1,4 @@
-//! What turns the table of one epoch into the next one's.
+//! `Swap`: the change from the table of one epoch to that of the next.
 ghost use Rattle.std.specs.Prelude.{◌≡◌, ◌==◌, ℕ, OnOk, find};
 ghost use Rattle.hc_places.specs.Swap.{AreOnce, ChangesAscend};
 
@@ -18,7 +18,7 @@ pub type ChangedTask = (Task, TaskTable);
 pub struct ChangedRow {
     variable: VarId,
     place: Option<Place>,
-    // how many rows of the table that changes have lower numbers
+    // the number of rows with lower numbers in the table that changes
     row: usize,
 }
 
@@ -33,9 +33,9 @@ impl Model for ChangedRow {
 impl ChangedRow {
     ghost use Rattle.std.specs.Prelude.{◌≡◌};
 
-    /// The change of a variable with its new place, none where it goes. `row` says how many rows of the table that
-    /// changes have lower numbers, so that the variable's old row is found there without a search. With any other
-    /// number it is searched for, and nothing else changes.
+    /// Returns the change of a variable to its new place, or to none if it goes. `row` is the number of rows with lower numbers
+    /// in the table that changes: with it the variable's old row is found without a search. With any other number the row is
+    /// searched for, and nothing else changes.
     pub fn of(variable: VarId, place: Option<Place>, row: usize) -> ChangedRow
         ensures { result ≡ (variable, place) }
     {
@@ -53,21 +53,22 @@ impl ChangedRow {
         self.variable
     }
 
-    /// Its new place; none where it goes.
+    /// Its new place; none if it goes.
     pub fn place(&self) -> Option<Place>
         ensures { result ≡ self.now.1 }
     {
         self.place
     }
 
-    /// How many rows of the table that changes have lower numbers, as whoever made the change says.
+    /// Returns the number of rows with lower numbers in the table that changes, as the maker of the change gave it. It may be
+    /// wrong.
     pub(crate) fn row(&self) -> usize {
         self.row
     }
 }
 
-/// What an edit changes in the table of a line: the tasks whose tables differ, at most 8, and the
-/// places of the variables that are elsewhere, appear or go.
+/// The changes of an edit to the table of a line: the tasks whose tables differ, at most 8, and the new places of the variables
+/// that are elsewhere, appear or go.
 #[derive(Debug)]
 pub struct Swap {
     edit: Edit,
@@ -95,8 +96,7 @@ impl Model for Swap {
     ghost invariant = { λ swap. IsInOrder (record { tasks = swap.tasks; rows = swap.rows.items }) };
 }
 
-/// Puts changed rows, each variable once, in the order of their numbers. `AllocError` where the sort's
-/// memory was refused.
+/// Sorts changed rows, each variable once, by their numbers. Fails with `AllocError` if the sort's allocation fails.
 fn sort_changes(rows: &mut Vec<ChangedRow>) -> Result<(), AllocError>
     requires { AreOnce rows.old.items }
     ensures ascends { OnOk result (ChangesAscend rows.new.items) }
@@ -109,10 +109,9 @@ impl Swap {
     ghost use Rattle.std.specs.Prelude.{◌≡◌, IfOk};
     ghost use Rattle.hc_places.specs.Swap.{AreOnce, ChangesAscend, LeadsAsSaid, changed_places};
 
-    /// What changed tasks, in the order of their numbers, and changed variables, each once and in any
-    /// order, make of a table, for the edit that asks for it; the variables are sorted here. Where the
-    /// tasks and the variables say what differs between two tables, it leads from the one to the other.
-    /// `AllocError` where a growth or the sort's memory was refused.
+    /// Returns the swap of an edit, with these changed tasks, in the order of their numbers, and these changed variables, each
+    /// once and in any order; the variables are sorted here. If the tasks and the variables are the differences between two
+    /// tables, the swap leads from the one to the other. Fails with `AllocError` if an allocation fails.
     pub fn of(
         alloc: Global,
         edit: &Edit,
@@ -157,8 +156,8 @@ impl Swap {
         self.rows.as_slice()
     }
 
-    /// How many variables are elsewhere, appear or go: each once, so there are no more of them than
-    /// numbers of variables, 4,294,967,295.
+    /// Returns the number of variables that are elsewhere, appear or go. Each counts once, so there are no more than numbers of
+    /// variables, 4,294,967,295.
     pub fn places(&self) -> u32
         ensures { result ≡ changed_places self.now }
     {

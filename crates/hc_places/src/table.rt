@@ -1,4 +1,4 @@
-//! The table of a line, where tasks look up their datagrams and their variables.
+//! `Places`: the table of a line, in which tasks look up their datagrams and their variables.
 ghost use Rattle.std.specs.Prelude.{◌≡◌, ◌≤◌, ◌==◌, ◌↔◌, IsTrue, false, find, length, nat_lt, OnOk, option_map, true};
 ghost use Rattle.std.specs.List.Sorted.{IsNonDecreasingBy, IsPartitionPoint};
 ghost use Rattle.hc_places.specs.Table.{by_number};
@@ -11,7 +11,7 @@ use hc_records::task::Task;
 use std::alloc::{AllocError, Global};
 use std::marker::Model;
 
-/// Where a variable is.
+/// The place of a variable.
 #[derive(Clone, Copy, Debug, PartialEq, Eq)]
 pub struct Place {
     /// The task whose datagrams carry it, 0 to 7.
@@ -50,11 +50,11 @@ pub struct Datagram {
     pub length: u16,
     /// The working counter that it comes back with when every slave of the line has processed it.
     pub expected: u16,
-    /// The bytes of the task's earlier datagrams: where its data are in the task's image.
+    /// The offset of its data in the task's image: the bytes of the task's earlier datagrams.
     pub offset: u16,
 }
 
-/// The datagrams of a task, and how many bytes of its image are outputs and inputs.
+/// The datagrams of a task, and the numbers of output and input bytes of its image.
 #[derive(Debug, Drop)]
 pub struct TaskTable {
     pub(crate) datagrams: ArrayVec<Datagram, 16>,
@@ -103,14 +103,14 @@ impl Model for Places {
     ghost invariant = { λ places. IsTable (record { tasks = places.tasks; variables = places.variables.items }) };
 }
 
-/// Whether two datagrams are the same.
+/// True if two datagrams are the same.
 fn same_datagram(a: &Datagram, b: &Datagram) -> bool
     ensures { IsTrue result ↔ (a.now ≡ b.now) }
 {
     *a == *b
 }
 
-/// Whether two lists of datagrams are the same.
+/// True if two lists of datagrams are the same.
 fn same_datagrams(these: &[Datagram], those: &[Datagram]) -> bool
     ensures { IsTrue result ↔ (these.now ≡ those.now) }
 {
@@ -139,7 +139,7 @@ impl TaskTable {
         self.datagrams.as_slice()
     }
 
-    /// Whether two tables are the same.
+    /// True if two tables are the same.
     pub(crate) fn is_same(&self, other: &TaskTable) -> bool
         ensures { IsTrue result ↔ (self.now ≡ other.now) }
     {
@@ -148,7 +148,7 @@ impl TaskTable {
             && same_datagrams(self.datagrams.as_slice(), other.datagrams.as_slice())
     }
 
-    /// A table that equals this one; it takes no memory.
+    /// Returns a table that equals this one. It allocates nothing.
     pub(crate) fn duplicate(&self) -> TaskTable
         ensures { result ≡ self.now }
     {
@@ -170,8 +170,8 @@ impl Copied for TaskTable {
     }
 }
 
-/// Puts rows in the order of their numbers; those of one number stay in their order. `AllocError`
-/// where the sort's memory was refused.
+/// Sorts rows by their numbers; those of one number stay in their order. Fails with `AllocError` if the sort's allocation
+/// fails.
 fn sort_rows(rows: &mut Vec<VariableRow>) -> Result<(), AllocError>
     ensures sorted { OnOk result (rows.new.items ≡ by_number rows.old.items) }
     ensures order { OnOk result (IsNonDecreasingBy (λ row. row.0) rows.new.items) }
@@ -179,7 +179,7 @@ fn sort_rows(rows: &mut Vec<VariableRow>) -> Result<(), AllocError>
     rows.sort_by_key(|row| row.0.number())
 }
 
-/// How many rows have a lower number than a variable.
+/// Returns the number of rows with a lower number than a variable's.
 pub(crate) fn count_below(rows: &[VariableRow], variable: VarId) -> usize
     requires { IsNonDecreasingBy (λ row. row.0) rows.now }
     ensures bound { result ≤ length rows.now }
@@ -188,7 +188,8 @@ pub(crate) fn count_below(rows: &[VariableRow], variable: VarId) -> usize
     rows.partition_point(|row| row.0.number() < variable.number())
 }
 
-/// The place of a variable among rows in the order of their numbers, where so many have a lower one.
+/// Returns the place of a variable among rows in the order of their numbers, of which `below` have a lower one; none if it has
+/// no row.
 pub(crate) fn place_at(rows: &[VariableRow], below: usize, variable: VarId) -> Option<Place>
     requires ascends { IsNonDecreasingBy (λ row. row.0) rows.now }
     requires below { IsPartitionPoint (λ row. nat_lt row.0 variable ≡ true) (λ row. nat_lt row.0 variable ≡ false) rows.now below }
@@ -198,7 +199,7 @@ pub(crate) fn place_at(rows: &[VariableRow], below: usize, variable: VarId) -> O
     if row.0 == variable { Some(row.1) } else { None }
 }
 
-/// The place of a variable among rows in the order of their numbers.
+/// Returns the place of a variable among rows in the order of their numbers; none if it has no row.
 fn find_place(rows: &[VariableRow], variable: VarId) -> Option<Place>
     requires { IsNonDecreasingBy (λ row. row.0) rows.now }
     ensures { result ≡ option_map (λ row. row.1) (find (λ row. row.0 == variable) rows.now) }
@@ -212,8 +213,8 @@ impl Places {
     ghost use Rattle.hc_places.specs.Ranges.{IsDatagram};
     ghost use Rattle.hc_places.specs.Table.{IsTable, RowsAscend, by_number, datagram_in, datagrams_in, part_in, place_in};
 
-    /// The table of tasks and of rows in any order, which are sorted; no variable has two. `AllocError` where the sort's
-    /// memory was refused.
+    /// Returns the table of tasks and of rows in any order, which are sorted; no variable has two. Fails with `AllocError` if
+    /// the sort's allocation fails.
     pub(crate) fn of(tasks: Vec<TaskTable>, rows: Vec<VariableRow>) -> Result<Places, AllocError>
         requires eight { length tasks.items ≡ TASKS }
         requires ascends { RowsAscend (by_number rows.items) }
@@ -227,15 +228,15 @@ impl Places {
         })
     }
 
-    /// Every table has eight tasks, and each variable once, in the order of their numbers. The call does
-    /// nothing: its contract says so.
+    /// Each table has eight tasks, and each variable once, in the order of their numbers. The call does nothing: its contract
+    /// states this.
     pub fn is_table(&self)
         ensures { IsTable self.now }
     {
         let _ = &self.variables;
     }
 
-    /// Where a variable is; none where the table has no row of it.
+    /// Returns the place of a variable; none if the table has no row of it.
     pub fn place(&self, variable: VarId) -> Option<Place>
         ensures { result ≡ place_in self.now variable }
     {
@@ -250,8 +251,7 @@ impl Places {
         self.variables.as_slice()
     }
 
-    /// The datagrams of a task in the order of their numbers, at most 16; none where there is no such
-    /// task.
+    /// Returns the datagrams of a task in the order of their numbers, at most 16; none if there is no such task.
     pub fn datagrams(&self, task: u8) -> &[Datagram]
         ensures datagrams { result.now ≡ datagrams_in self.now task }
         ensures few { length result.now ≤ MOST_DATAGRAMS }
@@ -263,7 +263,7 @@ impl Places {
         }
     }
 
-    /// The datagram of a task with a number; none where the task has fewer, or there is no such task.
+    /// Returns the datagram of a task with a number; none if the task has fewer, or if there is no such task.
     pub fn datagram(&self, task: u8, number: u8) -> Option<Datagram>
         ensures datagram { result ≡ datagram_in self.now task number }
         ensures ranges { IfSome result IsDatagram }
@@ -272,8 +272,8 @@ impl Places {
         task.datagrams.get(usize::from(number)).copied()
     }
 
-    /// The bytes of the outputs, which come first, and of the inputs of a task's image; 0 and 0 where
-    /// there is no such task.
+    /// Returns the bytes of the outputs, which come first, and of the inputs of a task's image; 0 and 0 if there is no such
+    /// task.
     pub fn part(&self, task: u8) -> (u16, u16)
         ensures { result ≡ part_in self.now task }
     {
@@ -283,14 +283,14 @@ impl Places {
         }
     }
 
-    /// A copy of the table of a task. It takes no memory.
+    /// Returns a copy of the table of a task. It allocates nothing.
     pub fn task(&self, task: Task) -> TaskTable
         ensures { slice_get self.now.tasks task ≡ Some result }
     {
         self.tasks.as_slice()[task.as_index()].duplicate()
     }
 
-    /// A copy that equals this table, or `AllocError` where a growth was refused.
+    /// Returns a copy that equals this table. Fails with `AllocError` if an allocation fails.
     pub fn copied(&self, alloc: Global) -> Result<Places, AllocError>
         ensures { IfOk result (λ copy. copy ≡ self.now) }
     {

@@ -25,7 +25,8 @@ struct Carrier {
     dir: Dir,
 }
 
-/// Adds the variables of entries, from a bit on. Gives the first bit after them.
+/// Adds the variables of entries, from a bit on, and returns the first bit after them. Fails with `AllocError` if an allocation
+/// fails.
 fn add_entries(
     rows: &mut Vec<(VarId, Place)>,
     carrier: &Carrier,
@@ -56,9 +57,8 @@ fn add_entries(
     Ok(bit)
 }
 
-/// Adds the variables of an area that is at a place in a task, with their places, in the order in which its
-/// entries are assigned. The place of the area's bits in one of 16 datagrams. `AllocError` where a growth
-/// was refused.
+/// Adds the variables of an area that is at a place in a task, with their places, in the order in which its entries are
+/// assigned. The area's bits are in one of 16 datagrams. Fails with `AllocError` if an allocation fails.
 pub fn add_area(
     rows: &mut Vec<(VarId, Place)>,
     task: Task,
@@ -83,8 +83,8 @@ pub fn add_area(
     Ok(())
 }
 
-/// Adds the variables of a task whose areas have these places; the records of the areas are found under
-/// their keys. `AllocError` where a growth was refused.
+/// Adds the variables of a task whose areas have these places; the records of the areas are found under their keys. Fails with
+/// `AllocError` if an allocation fails.
 pub(crate) fn add_found(
     rows: &mut Vec<(VarId, Place)>,
     task: Task,

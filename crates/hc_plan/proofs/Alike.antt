@@ -93,7 +93,7 @@ ranks-same change (declared ∷ groups) =
     let were = length-map slaves own in
     omega (arith, rest, new, old, changed, many, were)
 
--- the slaves of a station address have no bits at an index where the first one has none, since no other has the address
+-- the slaves of a station address have no bits at an index if the first one has none, since no other has the address
 
 found-bitless : (groups : List Declared) (station index : ℕ) (member : Member) → lowest_fault (groups_of groups) ≡ None → find (is_at station) (line_from 1 groups) ≡ Some member
     → HasNoBits index member.slave.areas → HaveNoBits station index (line_from 1 groups)
@@ -187,7 +187,7 @@ blocks-same old new layout station index to both none =
     ∙ flat-on (member_blocks (line_from 1 new)) (member_blocks (line_from 1 old)) change (line_from 1 old)
     (λ k d inside. member-same old new layout station index to (slice_index_or (line_from 1 old) k d) both (mapped k d inside) (moved k d inside) (none k d inside))
 
--- so nothing of the configuration differs
+-- nothing of the configuration differs
 pub moved-alike : (groups : List Declared) (station index to : ℕ) (member : Member) → lowest_fault (groups_of groups) ≡ None → over_limit_task (line_from 1 groups) ≡ None
     → lowest_fault (groups_of (map (with_slaves (with_area station index (to_task to))) groups)) ≡ None
     → find (is_at station) (line_from 1 groups) ≡ Some member → HasNoBits index member.slave.areas
@@ -227,7 +227,7 @@ moved-alike groups station index to member project uncrowded project' found bare
       crowds = crowds;
     }
 
--- and so it is of an edit that moves such an area
+-- nothing of the configuration differs after an edit that moves such an area
 pub change-alike : (groups : List Declared) (change : Prepared) (edit : Edit) → lowest_fault (groups_of groups) ≡ None → over_limit_task (line_from 1 groups) ≡ None
     → changed_groups change groups ≡ groups_after groups edit → lowest_fault (groups_of (changed_groups change groups)) ≡ None → MovesNoBits groups edit
     → AreConfiguredAlike groups (changed_groups change groups)

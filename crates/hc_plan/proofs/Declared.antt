@@ -48,7 +48,7 @@ none-moved line =
     (All-weaker (Contains blocks) (λ block. not (list_any (same_block block) blocks) ≡ false) (λ block at. not_from_true (list_any (same_block block) blocks) (had blocks block at)) blocks
     (All-contains_itself blocks))
 
--- so none moves between lines that are configured alike
+-- no block moves between lines that are configured alike
 alike-moved : (old new : List Member) → AreAlike old new → moved_blocks old new ≡ []
 alike-moved old new same =
     ap (filter (λ (block : LineBlock). not (list_any (same_block block) (line_blocks old)))) same.blocks ∙ none-moved old
@@ -116,7 +116,7 @@ slaves-taken test slaves =
     sym (any-flat test (λ (slave : Slave). area_names slave.areas) slaves
     ∙ any-same (λ (slave : Slave). list_any test (area_names slave.areas)) (λ slave. list_any (λ area. pdos_take test area.offered) slave.areas) (λ slave. areas-taken test slave.areas) slaves)
 
--- a group is found where one passes the test
+-- a group is found if one passes the test
 
 found-by : (passes : Bool) (first : ℕ) (rest : Option ℕ) (others : Bool) → is_some rest ≡ others → is_some (if passes then Some first else rest) ≡ (passes || others)
 found-by true first rest others same = refl

@@ -22,8 +22,8 @@ pub judged : (slice groups : List Declared) (edit : Edit) (found : Option EditFa
     → own_fault groups edit ≡ found
 judged slice groups edit found same is = ap (λ (g : List Declared). own_fault g edit) (sym same) ∙ sym is
 
--- the faults that concern the new line and the epoch, where a task is over its limit or none is, and the epoch is the last or not, with those
--- after them
+-- the faults that concern the new line and the epoch, for a task that is over its limit or none, and for the last epoch or
+-- another, with those after them
 abbrev last_faults : Option ℕ → Bool → List (Bool × EditFault) → List (Bool × EditFault)
 last_faults over_limit spent late = (is_some over_limit, TooManyDatagrams (unwrap_or over_limit 0)) ∷ (spent, EpochsSpent) ∷ late
 

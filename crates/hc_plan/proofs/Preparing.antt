@@ -1,4 +1,4 @@
--- What is worked out of an edit makes it a prepared one.
+-- The work of an edit, its report and its moved blocks make a prepared edit.
 use Rattle.std.proofs.Common.{◌≡◌, ◌∙◌, ◌+◌, false, List, [], ◌∷◌, ◌++◌, None, ap, refl, sym, subst, rules}
 use Rattle.std.specs.Prelude.{◌==◌, Ok, Some}
 use Rattle.hc_records.specs.declared.edit.Edit.{Edit}

@@ -69,7 +69,7 @@ one-number : (slave : Slave) (n k : ℕ) (a b : RegisterBlock) (p q : Bool) → 
     → a.register ≡ b.register → n ≡ k
 one-number slave n k a b p q first second inside one two same = search (rules, eqb-true, one-manager, eqb-false, slice_get_within)
 
--- so two blocks of a slave at one register are one
+-- two blocks of a slave at one register are one
 
 same-bytes : (line : List Member) (member : Option Member) (n k : ℕ) (a b : RegisterBlock) → ((m : Member) → member ≡ Some m → IsSlaveInside m.slave)
     → option_and_then (λ m. slice_get (slave_blocks line m) n) member ≡ Some a → option_and_then (λ m. slice_get (slave_blocks line m) k) member ≡ Some b

@@ -1,5 +1,4 @@
--- What is said of an edit leads from the table of the line before it to the table of the line after
--- it.
+-- The differences of an edit lead from the table of the line before it to the table of the line after it.
 use Rattle.std.proofs.Common.{◌≡◌, ◌∙◌, ◌<◌, ℕ, List, None, length, map, refl, sym, ap, subst, arith, rules}
 use Rattle.std.specs.Prelude.{All}
 use Rattle.std.proofs.lemmas.List.{length-map}

@@ -1,4 +1,4 @@
--- What a slave adds to a datagram's counter by the places of its areas is what the datagram's keys say.
+-- The share of a slave in a datagram's counter, by the places of its areas, is the share by the datagram's keys.
 use Rattle.std.proofs.Common.{◌≡◌, ℕ, ◌+◌, ◌<◌, ◌==◌, ◌∙◌, Bool, true, false, if◌then◌else◌, List, [], ◌∷◌, Contains, refl, sym, ap, ap₂, subst, arith}
 use Rattle.std.specs.Prelude.{◌&&◌, All, AllPairs, IsTrue, Option, Some, None, find, map, option_and_then, option_map, slice_get, slice_index_or, sum_by, unwrap_or}
 use Rattle.std.specs.Option.{option_map_or}

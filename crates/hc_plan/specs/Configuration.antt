@@ -1,4 +1,4 @@
--- What a master configures: all that depends on the line alone.
+-- The configuration by a master: all that depends on the line alone.
 use Rattle.std.specs.Prelude.{ℕ, ◌==◌, if◌then◌else◌, List, find, position, slice_get, option_and_then, option_map, Option, Some, None, Result, Ok, Err}
 use Rattle.hc_records.specs.declared.faults.EditFault.{EditFault}
 use Rattle.hc_records.specs.declared.faults.EditFault.TheVariants.{Absent, UnknownStation}
@@ -40,7 +40,7 @@ line_block_at line n = option_map (λ found. at_station found.station found.bloc
 abbrev pub station_at : List Member → ℕ → Option ℕ
 station_at line n = option_map (λ member. member.slave.station) (slice_get line n)
 
--- the number that was found; the fault where none was
+-- the number that was found, or the fault if none was
 abbrev pub found_or : Option ℕ → EditFault → Result ℕ EditFault
 found_or None fault = Err fault
 found_or (Some n) fault = Ok n

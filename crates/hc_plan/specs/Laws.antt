@@ -1,4 +1,4 @@
--- What follows from the definitions, so that a reader can trust them. Each is the contract of a function of `laws`.
+-- Laws that follow from the definitions. Each is the contract of a function of `laws`.
 use Rattle.std.specs.Prelude.{◌≡◌, ◌≢◌, ◌↔◌, ℕ, false, All, Contains, List, map, None, Some}
 use Rattle.hc_records.specs.declared.edit.Edit.{Edit}
 use Rattle.hc_records.specs.Line.{Member, State, groups_of, line}
@@ -9,7 +9,7 @@ use Rattle.hc_plan.specs.declared.report.Report.{Report}
 use Rattle.hc_plan.specs.Configuration.{block_at, config}
 use Rattle.hc_plan.specs.Reports.{ReportsEdit, found_name}
 
--- where no station address is twice, a slave has a block with a number exactly where the line is configured with it
+-- if no station address occurs twice, a slave has a block with a number exactly if the line is configured with it
 abbrev pub BlocksAreConfigured : Type 0
 BlocksAreConfigured =
     (line : List Member) (station number : ℕ) (block : RegisterBlock) → has_repeat (map (λ member. member.slave.station) line) ≡ false
@@ -21,7 +21,8 @@ pub record IsConfiguredIn (line : List Member) (found : LineBlock) : Type 0 wher
   pub alone : (other : LineBlock) → Contains (config line).blocks other → other.station ≡ found.station → other.block.register ≡ found.block.register
       → other.block ≡ found.block
 
--- a block of the new line that a report doesn't name was a block of the old line, a project's: the same bytes, alone at the same register of the same slave
+-- a block of the new line that a report does not name was a block of the old line, a project's: the same bytes, alone at the
+-- same register of the same slave
 abbrev pub UnmovedBlocksStay : Type 0
 UnmovedBlocksStay =
     (old new : State) (edit : Edit) (report : Report) (found : LineBlock) → lowest_fault (groups_of old.groups) ≡ None → ReportsEdit old edit new report

@@ -15,7 +15,7 @@ block_in block = option_map (λ found. found.block) block
 abbrev pub blocks_by_rank : List Declared → List (Option RegisterBlock)
 blocks_by_rank groups = map block_in (places_from (line_from 1 groups) 1 groups)
 
--- the block at a place; none where the place is empty, or there is no such place
+-- the block at a place; none if the place is empty, or if there is no such place
 abbrev pub has_at : List (Option RegisterBlock) → ℕ → Option RegisterBlock
 has_at blocks n = option_and_then (λ block. block) (slice_get blocks n)
 

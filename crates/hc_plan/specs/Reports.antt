@@ -1,4 +1,4 @@
--- What edits of a plan answer, and the states that they leave.
+-- The answers to edits of a plan, and the states that the edits leave.
 use Rattle.std.specs.Prelude.{◌≡◌, ◌≢◌, ℕ, not, IfSome, Bool, true, false, List, [], ◌∷◌, filter, length, map, Result, Ok, Err}
 use Rattle.hc_records.specs.declared.edit.Edit.{Edit}
 use Rattle.hc_records.specs.declared.faults.EditFault.{EditFault}
@@ -27,7 +27,7 @@ pub record ReportsEdit (old : State) (edit : Edit) (new : State) (report : Repor
   pub says : SaysWhatDiffers (table_of (line old)) (table_of (line new)) report.swap.change
   pub places : changed_places report.swap ≡ length (changed_variables (table_of (line old)) (table_of (line new)))
 
--- what an edit answers: a report, or a fault
+-- the answer to an edit: a report, or a fault
 abbrev pub Answer : Type 0
 Answer = Result Report EditFault
 
@@ -47,7 +47,7 @@ abbrev pub AreAnswers : State → List (Edit × Answer) → State → Type 0
 AreAnswers old [] new = new ≡ old
 AreAnswers old (pair ∷ pairs) new = (next : State) × IsAnswer old pair.0 pair.1 next × AreAnswers next pairs new
 
--- a growth was refused
+-- an allocation failed
 abbrev pub wants_memory : Answer → Bool
 wants_memory (Err Memory) = true
 wants_memory _ = false

@@ -1,5 +1,5 @@
-//! An edit worked out on a line whose tasks are kept in trees: what becomes different is found by turning
-//! the trees, which are put back.
+//! An edit worked out on a line whose tasks are stored in trees. The trees are turned to find the differences, and are then put
+//! back.
 ghost use Rattle.std.specs.Prelude.{◌≡◌, ◌≢◌, ◌+◌, Err, IfErr, IfOk, None, Ok, OnOk, map};
 ghost use Rattle.hc_records.specs.declared.faults.EditFault.TheVariants.{Memory};
 ghost use Rattle.hc_records.specs.Edits.{over_limit_task, edited};
@@ -70,8 +70,8 @@ fn names_of(alloc: Global, blocks: &[RankedBlock]) -> Result<Vec<(u16, u8)>, All
     Ok(names)
 }
 
-/// The differences between a line, by its table and its stored blocks, and the one that an edit makes of it, by the trees
-/// of that. The memory for the new table is allocated last. Fails with `AllocError` if an allocation fails.
+/// Returns the differences between a line, by its table and its stored blocks, and the line after an edit, by the trees of
+/// that. The memory for the new table is allocated last. Fails with `AllocError` if an allocation fails.
 fn say(
     alloc: Global,
     edit: &Edit,
@@ -108,8 +108,8 @@ fn say(
     })
 }
 
-/// Works an edit without a fault of its own out on a line, whose trees are then as they were. Otherwise the
-/// lowest fault whose condition holds, or `Memory` where a growth was refused.
+/// Works out an edit that has no fault by itself; the trees of the line are then as they were. Fails with the lowest fault
+/// whose condition holds, or with `Memory` if an allocation fails.
 pub(crate) fn work_out<L: Ledger>(
     alloc: Global,
     edit: &Edit,

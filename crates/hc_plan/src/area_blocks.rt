@@ -9,8 +9,7 @@ use hc_records::task::Task;
 use hc_registers::blocks::Block;
 use hc_registers::fmmu::{Mapping, logical_address};
 
-/// Where an area that has a place in a task is mapped: the logical address of its datagram, and its first
-/// bit there.
+/// Returns the mapping of an area that has a place in a task: the logical address of its datagram, and its first bit there.
 fn mapping(task: Task, placed: Placed) -> Mapping
     ensures { result ≡ mapping_at task placed }
 {
@@ -20,8 +19,8 @@ fn mapping(task: Task, placed: Placed) -> Mapping
     }
 }
 
-/// The sync manager block and the FMMU block of the area at an index of its slave's record, by its place,
-/// which gives its width: no PDO is read.
+/// Returns the sync manager block and the FMMU block of the area at an index of its slave's record. Its place gives its width,
+/// so that no PDO is read.
 pub(crate) fn two_blocks(index: u8, area: &Area, place: Option<Placed>) -> (Block, Block)
     requires { IsWritable index area.now place }
     ensures { result ≡ two_blocks index area.now place }

@@ -9,7 +9,8 @@ use hc_groups::index::Indexed;
 use hc_registers::blocks::Block;
 pub use hc_registers::blocks::LineBlock;
 
-/// The block with a number, from 0, in the order of the slave with a station address.
+/// Returns the block with a number, from 0, in the order of the slave with a station address; none if the line has no such
+/// slave, or the slave has no such block.
 pub(crate) fn block_at(
     groups: &Indexed<'_>,
     blocks: &RegisterBlocks,
@@ -23,7 +24,8 @@ pub(crate) fn block_at(
     blocks.of_slave(slave.rank(), number)
 }
 
-/// The block with a number, from 0, in the order of the slave with a rank, with its slave's station address.
+/// Returns the block with a number, from 0, in the order of the slave with a rank, with its slave's station address; none if
+/// the line has no such slave, or the slave has no such block.
 pub(crate) fn block_of_rank(
     groups: &Indexed<'_>,
     blocks: &RegisterBlocks,
@@ -42,7 +44,8 @@ pub(crate) fn block_of_rank(
     })
 }
 
-/// The block with a number, from 0, in line and block order, with its slave's station address.
+/// Returns the block with a number, from 0, in line and block order, with its slave's station address; none if the line has
+/// fewer blocks.
 pub(crate) fn nth_block(
     groups: &Indexed<'_>,
     blocks: &RegisterBlocks,

@@ -1,5 +1,5 @@
-//! A group that is declared after the groups of a plan: whether it may be, and the memory for it, which is
-//! taken before anything changes.
+//! A group that is declared after the groups of a plan: the check that it may be, and its memory, which is allocated before
+//! anything changes.
 ghost use Rattle.std.specs.Prelude.{◌≡◌, ◌≢◌, ◌+◌, ◌<◌, ◌≤◌, ◌==◌, ℕ, IfErr, IfOk, List, None, OnOk, Some, length};
 ghost use Rattle.std.specs.List.{list_any};
 ghost use Rattle.hc_records.specs.declared.faults.EditFault.TheVariants.{Memory};
@@ -28,11 +28,11 @@ use hc_records::room::Room;
 use hc_registers::blocks::Block;
 use std::alloc::{AllocError, Global};
 
-/// A group that may be declared after the groups of a plan, and memory for it in what the plan keeps. Its
-/// drop is written out, so that those who own a prepared edit don't open it wherever they let it go.
+/// A group that may be declared after the groups of a plan, with memory for it in all lists of the plan. Its drop is written
+/// out, so that the owners of a prepared edit do not open it wherever they drop it.
 pub(crate) struct Declaration {
     pub(crate) group: Group,
-    // how many slaves are declared with it
+    // the number of declared slaves with those of the group
     slaves: u16,
     // for the declared groups with it
     groups: Room<Declared>,
@@ -40,7 +40,7 @@ pub(crate) struct Declaration {
     index: IndexRoom,
     // for the places of their register blocks
     blocks: Room<Option<Block>>,
-    // the tasks of the line in trees with room for its slaves, where the plan's own have none
+    // the tasks of the line in trees with room for its slaves, if the plan's own have none
     wider: Option<LineCuts>,
 }
 
@@ -57,7 +57,7 @@ impl Drop for Declaration {
     }
 }
 
-/// Whether the variable that an entry names, if it names one, is declared already.
+/// True if an entry names a variable that is declared already.
 fn names_taken(groups: &Indexed<'_>, entry: Entry) -> bool
     ensures { result ≡ names_taken groups.now entry }
 {
@@ -67,14 +67,14 @@ fn names_taken(groups: &Indexed<'_>, entry: Entry) -> bool
     }
 }
 
-/// Whether one of these entries names such a variable.
+/// True if one of these entries names a variable that is declared already.
 fn entries_take(groups: &Indexed<'_>, entries: &[Entry]) -> bool
     ensures { result ≡ list_any (names_taken groups.now) entries.now }
 {
     entries.iter().any(|entry| names_taken(groups, *entry))
 }
 
-/// Whether an entry of one of these PDOs does.
+/// True if an entry of one of these PDOs names a variable that is declared already.
 fn pdos_take(groups: &Indexed<'_>, pdos: &[Pdo]) -> bool
     ensures { result ≡ pdos_take groups.now pdos.now }
 {
@@ -82,7 +82,7 @@ fn pdos_take(groups: &Indexed<'_>, pdos: &[Pdo]) -> bool
         .any(|pdo| entries_take(groups, pdo.entries.as_slice()))
 }
 
-/// Whether an entry of a PDO that one of these areas offers does.
+/// True if one of these areas offers a PDO with an entry that names a variable that is declared already.
 fn areas_take(groups: &Indexed<'_>, areas: &[Area]) -> bool
     ensures { result ≡ areas_take groups.now areas.now }
 {
@@ -91,7 +91,7 @@ fn areas_take(groups: &Indexed<'_>, areas: &[Area]) -> bool
         .any(|area| pdos_take(groups, area.offered.as_slice()))
 }
 
-/// Whether an entry of a PDO that an area of one of these slaves offers does.
+/// True if an area of one of these slaves offers a PDO with an entry that names a variable that is declared already.
 fn slaves_take(groups: &Indexed<'_>, slaves: &[Slave]) -> bool
     ensures { result ≡ list_any (λ slave. areas_take groups.now slave.areas) slaves.now }
 {
@@ -100,21 +100,21 @@ fn slaves_take(groups: &Indexed<'_>, slaves: &[Slave]) -> bool
         .any(|slave| areas_take(groups, slave.areas.as_slice()))
 }
 
-/// Whether one of the variables that slaves offer is declared already.
+/// True if one of the variables that slaves offer is declared already.
 fn variables_taken(groups: &Indexed<'_>, slaves: &[Slave]) -> bool
     ensures { result ≡ list_any (is_declared_variable groups.now) (slave_names slaves.now) }
 {
     slaves_take(groups, slaves)
 }
 
-/// Whether an alias is declared already.
+/// True if an alias is declared already.
 fn alias_taken(groups: &Indexed<'_>, alias: u16) -> bool
     ensures { result ≡ list_any (λ declared. declared.group.alias == alias) groups.now }
 {
     groups.group(alias).is_some()
 }
 
-/// Whether one of the station addresses of slaves is.
+/// True if one of the station addresses of slaves is declared already.
 fn stations_taken(groups: &Indexed<'_>, slaves: &[Slave]) -> bool
     ensures { result ≡ list_any (λ slave. list_any (λ declared. has_station slave.station declared.group.slaves) groups.now) slaves.now }
 {
@@ -123,8 +123,8 @@ fn stations_taken(groups: &Indexed<'_>, slaves: &[Slave]) -> bool
         .any(|slave| groups.is_declared_station(slave.station))
 }
 
-/// The lowest fault of a group that is declared after others by what these have already, none where it has
-/// none. It takes no memory.
+/// Returns the lowest fault of a group by the aliases, station addresses and variables that are declared already; none if it
+/// has none. It allocates nothing.
 fn taken_fault(groups: &Indexed<'_>, group: &Group) -> Option<EditFault>
     ensures { result ≡ lowest (taken_faults groups.now group.now) }
 {
@@ -141,7 +141,8 @@ fn taken_fault(groups: &Indexed<'_>, group: &Group) -> Option<EditFault>
     None
 }
 
-/// The lowest fault of a group by the limits of a project of so many groups and slaves, none where it has none.
+/// Returns the lowest fault of a group by the limits of a project, which has so many groups and slaves already; none if it has
+/// none.
 fn limit_fault(groups: usize, slaves: usize, group: &Group) -> Option<EditFault>
     ensures { result ≡ lowest (limit_faults groups slaves group.now) }
 {
@@ -154,8 +155,8 @@ fn limit_fault(groups: usize, slaves: usize, group: &Group) -> Option<EditFault>
     None
 }
 
-/// A copy of a group that may be declared after others. Otherwise the lowest of its faults, 30 to 35, or
-/// `Memory` where a growth was refused.
+/// Returns a copy of a group that may be declared after others. Fails with the lowest of its faults, 30 to 35, or with `Memory`
+/// if an allocation fails.
 fn free_group(
     alloc: Global,
     count: usize,
@@ -181,8 +182,8 @@ fn free_group(
     Ok(copy)
 }
 
-/// The tasks of a line in trees with room for so many slaves, none where its own trees have it. `AllocError`
-/// where a growth was refused.
+/// Returns the tasks of a line in trees with room for so many slaves, or none if its own trees have room. Fails with
+/// `AllocError` if an allocation fails.
 fn widened(alloc: Global, cuts: &LineCuts, slaves: u16) -> Result<Option<LineCuts>, AllocError>
     requires fewer { AreOfFewer cuts.now slaves }
     requires most { slaves ≤ MOST_SLAVES }
@@ -207,7 +208,7 @@ impl Declaration {
     ghost use Rattle.hc_plan.specs.RegisterBlocks.{blocks_by_rank};
     ghost use Rattle.hc_plan.specs.inner.Declaring.{CanDeclare};
 
-    /// A group that may be declared after those of a project, with all memory for it. Fails with the lowest of the
+    /// Returns a group that may be declared after those of a project, with all memory for it. Fails with the lowest of the
     /// group's faults, 30 to 35, or with `Memory` if an allocation fails.
     pub(crate) fn of(
         alloc: Global,
@@ -237,7 +238,7 @@ impl Declaration {
         })
     }
 
-    /// Declares the group after those that it was made for: it is absent. Nothing can be refused.
+    /// Declares the group after those that it was made for: it is absent. It cannot fail.
     pub(crate) fn carry_out(
         self,
         groups: &mut Items<Declared>,
@@ -275,7 +276,7 @@ impl Declaration {
     }
 }
 
-/// Puts the tasks of a line into wider trees, or takes as many slaves into its own.
+/// Replaces the trees of a line's tasks with wider ones, or admits the slaves to its own if there are no wider ones.
 fn put_trees(cuts: &mut LineCuts, slaves: u16, wider: Option<LineCuts>)
     requires fewer { AreOfFewer cuts.old slaves }
     requires trees { AreTrees cuts.old slaves wider }
@@ -287,8 +288,8 @@ fn put_trees(cuts: &mut LineCuts, slaves: u16, wider: Option<LineCuts>)
     }
 }
 
-/// The report of a declared group: a new epoch begins, and nothing of the line becomes different. Fails with `AllocError`
-/// if an allocation fails.
+/// Returns the report of a declared group: a new epoch begins, and nothing of the line changes. Fails with `AllocError` if an
+/// allocation fails.
 pub(crate) fn declared_report(
     alloc: Global,
     edit: &Edit,

@@ -23,7 +23,7 @@ use std::marker::Brand;
 use std::snapshot::Snapshot;
 use std::sync::ledger::Blank;
 
-/// The group that an edit declares, none where it declares none.
+/// Returns the group that an edit declares, or none.
 fn declared_group(edit: &Edit) -> Option<&Group>
     ensures { MatchOption result (declares edit.now ≡ false) (λ group. edit.now ≡ Declare group.now) }
 {
@@ -46,9 +46,9 @@ impl Plan {
     ghost use Rattle.hc_plan.specs.Prepared.{IsPrepared};
     ghost use Rattle.hc_plan.specs.Reports.{AreAnswers, ReportsEdit, carried_out};
 
-    /// Works out what an edit makes of the plan, and takes the memory for carrying it out; the plan is as it was.
-    /// Otherwise the lowest fault whose condition holds, or `Memory` where a growth was refused. A fault that the
-    /// edit has by itself, of the faults 1 to 11, is judged before the first growth.
+    /// Works out the effect of an edit on the plan, and allocates the memory for carrying it out; the plan is as it was. Fails
+    /// with the lowest fault whose condition holds, or with `Memory` if an allocation fails. A fault that the edit has by
+    /// itself, one of 1 to 11, is judged before the first allocation.
     pub fn prepare(&mut self, alloc: Global, edit: &Edit) -> Result<PreparedEdit, EditFault>
         ensures made { IfOk result (λ prepared. prepared.old ≡ self.old) }
         ensures edit { IfOk result (λ prepared. prepared.report.swap.edit ≡ edit.now) }
@@ -164,8 +164,8 @@ impl Plan {
         })
     }
 
-    /// Carries a prepared edit out in the plan that it was worked out on, as it was then: the plan has the new line,
-    /// and the report says what became different. It takes no memory, and nothing can be refused.
+    /// Carries out a prepared edit in the plan that it was worked out on, as it was then. The plan then has the new line, and
+    /// the returned report has the differences. It cannot fail, and it allocates nothing.
     pub fn carry_out(&mut self, prepared: PreparedEdit) -> Report
         requires { prepared.old ≡ self.old }
         ensures plan { self.new ≡ prepared.new }
@@ -182,7 +182,7 @@ impl Plan {
         report
     }
 
-    /// Carries out what was worked out of an edit; the epoch stays.
+    /// Carries out the work of a prepared edit; the epoch stays.
     fn carry_work(&mut self, work: Work, report: &Report, blocks: &[RankedBlock])
         requires { CanCarry self.old report.now work blocks.now }
         ensures { self.new ≡ record self.old { groups = groups_left_by work self.old.groups } }
@@ -199,7 +199,7 @@ impl Plan {
         }
     }
 
-    /// Carries an edit out that changes the line; the epoch stays.
+    /// Carries out an edit that changes the line; the epoch stays.
     fn change_line(&mut self, work: LineWork, report: &Report, blocks: &[RankedBlock])
         requires { CanCarry self.old report.now (NewLine work) blocks.now }
         ensures { self.new ≡ record self.old { groups = changed_groups work.change self.old.groups } }
@@ -220,7 +220,7 @@ impl Plan {
         self.places.carry_out(&report.swap, rows);
     }
 
-    /// Carries an edit out that leaves the line configured as it is; the epoch stays.
+    /// Carries out an edit that leaves the line configured as it is; the epoch stays.
     fn change_task(&mut self, change: Prepared, report: &Report, blocks: &[RankedBlock])
         requires { CanCarry self.old report.now (NewTask change) blocks.now }
         ensures { self.new ≡ record self.old { groups = changed_groups change self.old.groups } }
@@ -230,10 +230,9 @@ impl Plan {
         change.carry_out(&mut self.groups);
     }
 
-    /// Carries an edit out: the plan then has the new line, and the report says what became different.
-    /// Otherwise the lowest fault whose condition holds, or `Memory` where a growth was refused; the
-    /// plan is then as it was. A fault that the edit has by itself, of the faults 1 to 11, is judged
-    /// before the first growth.
+    /// Carries out an edit: the plan then has the new line, and the returned report has the differences. Fails with the lowest
+    /// fault whose condition holds, or with `Memory` if an allocation fails; the plan is then as it was. A fault that the edit
+    /// has by itself, one of 1 to 11, is judged before the first allocation.
     pub fn apply(&mut self, alloc: Global, edit: &Edit) -> Result<Report, EditFault>
         ensures accepted { OnOk result (edited self.old edit.now ≡ Ok self.new) }
         ensures report { IfOk result (ReportsEdit self.old edit.now self.new) }
@@ -245,8 +244,8 @@ impl Plan {
         Ok(self.carry_out(prepared))
     }
 
-    /// Carries edits out in their order, as `apply` does each, and gives their answers. The room for the
-    /// answers is taken first: after `AllocError` no edit was carried out, and the plan is as it was.
+    /// Carries out edits in their order, as `apply` does each, and returns their results. The list of results is allocated
+    /// first: after `AllocError` no edit was carried out, and the plan is as it was.
     pub fn run(
         &mut self,
         alloc: Global,

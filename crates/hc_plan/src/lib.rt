@@ -1,5 +1,5 @@
-//! The plan of a line: which groups are present, and what the present line is configured to. The core
-//! and the program ask it for datagrams, places and register blocks.
+//! `Plan`: the groups of a line, of which some are present, and the configuration of the present line. The core and the program
+//! ask it for datagrams, places and register blocks.
 #![tactic(auto)]
 
 mod applying;

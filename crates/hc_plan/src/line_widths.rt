@@ -1,4 +1,4 @@
-//! The trees of a line's tasks, turned to what an edit makes of it, and back.
+//! The trees of a line's tasks, turned to the line after an edit, and back.
 ghost use Rattle.std.specs.Prelude.{◌≡◌, IfErr, IfOk, None, OnErr, OnOk, Some};
 ghost use Rattle.hc_records.specs.Boundaries.{recut};
 ghost use Rattle.hc_records.specs.Edits.{over_limit_task};
@@ -16,9 +16,9 @@ use hc_cuts::starts::LineStarts;
 use hc_cuts::tasks::LineCuts;
 use std::sync::ledger::Ledger;
 
-/// Turns the trees of a line's tasks to what an edit makes of it, and answers how many spans of touched
-/// tasks aren't settled. Otherwise the lowest task of the new line that needs more than 16 datagrams, and
-/// the trees are as they were. It takes no memory.
+/// Turns the trees of a line's tasks to the line after an edit, and returns the number of spans of touched tasks that are not
+/// settled. Fails with the lowest task of the new line that needs more than 16 datagrams; the trees are then as they were. It
+/// allocates nothing.
 pub(crate) fn apply_line_widths<L: Ledger>(
     cuts: &mut LineCuts,
     edited: &EditedLine<'_>,
@@ -36,8 +36,8 @@ pub(crate) fn apply_line_widths<L: Ledger>(
     cuts.apply_widths(edited.change(), steps)
 }
 
-/// Turns the trees of what an edit makes of a line back to those of the line before it, by what was known
-/// of them there. It takes no memory.
+/// Turns the trees of the line after an edit back to the line before it, by the boundaries that the tasks had there. It
+/// allocates nothing.
 pub(crate) fn restore_line_widths(cuts: &mut LineCuts, edited: &EditedLine<'_>, known: &Before)
     requires edited { IsEditedLine edited.now }
     requires trees { cuts.old ≡ line_cuts (areas_by_rank edited.now.new) }
@@ -48,8 +48,8 @@ pub(crate) fn restore_line_widths(cuts: &mut LineCuts, edited: &EditedLine<'_>, 
     cuts.restore_widths(&back, known.starts());
 }
 
-/// Turns the trees of a line's tasks to what an edit makes of it again, by the boundaries that they have there.
-/// It takes no memory.
+/// Turns the trees of a line's tasks again to the line after an edit, by the boundaries that the tasks have there. It allocates
+/// nothing.
 pub(crate) fn apply_known_widths(cuts: &mut LineCuts, edited: &EditedLine<'_>, starts: &LineStarts)
     requires edited { IsEditedLine edited.now }
     requires trees { cuts.old ≡ line_cuts (areas_by_rank edited.now.old) }

@@ -1,4 +1,4 @@
-//! The register blocks that an edit moves: those of its candidates that aren't stored at their places.
+//! The register blocks that an edit moves: those of its candidates that are not stored at their places.
 ghost use Rattle.std.specs.Prelude.{◌≡◌, ◌∷◌, ◌≤◌, ◌++◌, [], IfOk, OnOk, filter};
 ghost use Rattle.hc_records.specs.Line.{line_from};
 ghost use Rattle.hc_registers.specs.Ranked.{moved_ranked};
@@ -58,10 +58,9 @@ fn add_moved(
     add_block(blocks, stored, ranked(candidate, number + 1, fmmu))
 }
 
-/// The register blocks that an edit moves, by what it makes of a line, by the stored blocks of the line, and by the
-/// candidates: with their new bytes, in line and block order. A block of the line after the edit moved where it wasn't a
-/// block of the line before: no block of the slave with that station address had the same bytes at the same register.
-/// `AllocError` where a growth was refused.
+/// Returns the register blocks that an edit moves, with their new bytes, in line and block order, from the line after the edit,
+/// the stored blocks of the line before it, and the candidates. A block moved if the slave with that station address had no
+/// block with the same bytes at the same register in the line before. Fails with `AllocError` if an allocation fails.
 pub(crate) fn moved_blocks(
     alloc: Global,
     edited_line: &EditedLine,

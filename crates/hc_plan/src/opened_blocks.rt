@@ -15,8 +15,8 @@ use hc_records::records::{Area, Slave};
 use hc_records::task::Task;
 use hc_registers::blocks::{Block, LineBlock};
 
-/// One of the two blocks of the area at an index of a slave with a rank: the sync manager block for an
-/// even number, the FMMU block for an odd one.
+/// Returns one of the two blocks of the area at an index of a slave with a rank: the sync manager block for an even number, the
+/// FMMU block for an odd one.
 fn area_block(layout: &PlacedLine, rank: u16, index: u8, area: &Area, number: u8) -> Block
     requires { IsWritable index area.now (placed_in layout.now area.now.task (record { dir = area.now.dir; rank = rank; area = index })) }
     ensures { result ≡ area_block_in layout.now rank number (index, area.now) }
@@ -59,7 +59,7 @@ fn made_block(groups: &Indexed<'_>, layout: &PlacedLine, rank: u16, number: u8) 
     })
 }
 
-/// The line's block at a place; none where the place is empty.
+/// Returns the line's block at a place; none if the place is empty.
 pub(crate) fn block_at_place(
     groups: &Indexed<'_>,
     layout: &PlacedLine,

@@ -37,7 +37,7 @@ impl<'a> PlacedLine<'a> {
     ghost use Rattle.hc_cuts.specs.Areas.{areas_by_rank};
     ghost use Rattle.hc_cuts.specs.TaskCuts.{line_cuts};
 
-    /// Those of the line of these groups, whose tasks are kept in these trees.
+    /// Returns the places of the line of these groups, whose tasks are stored in these trees.
     pub(crate) fn of(groups: &'a [Declared], cuts: &'a LineCuts) -> PlacedLine<'a>
         requires { cuts.now ≡ line_cuts (areas_by_rank groups.now) }
         ensures { result ≡ layout_of (line_from 1 groups.now) }

@@ -27,7 +27,8 @@ use std::alloc::{AllocError, Global};
 use std::marker::{Brand, Model};
 use std::sync::ledger::Blank;
 
-/// The declared groups at the opening: the mandatory one, which has alias 0, is present alone.
+/// Returns the declared groups at the opening: only the mandatory one, which has alias 0, is present. Fails with `AllocError`
+/// if an allocation fails.
 fn opened_groups(alloc: Global, groups: Vec<Group>) -> Result<Items<Declared>, AllocError>
     ensures { IfOk result (λ opened. opened ≡ map opened_group groups.items) }
 {
@@ -54,12 +55,12 @@ fn opened_blocks(
     RegisterBlocks::open(alloc, &index.of(groups), &PlacedLine::of(groups, cuts))
 }
 
-/// A state of a line and its configuration. Its drop is written out, so that those who own a plan don't
-/// open what it holds wherever they let it go.
+/// A state of a line and its configuration. Its drop is written out, so that the owners of a plan do not open it wherever they
+/// drop it.
 #[derive(Debug)]
 pub struct Plan {
     pub(crate) groups: Items<Declared>,
-    // where the slaves of the line and their blocks are found
+    // the index of the slaves of the line and their blocks
     pub(crate) index: Index,
     pub(crate) epoch: u32,
     pub(crate) places: Places,
@@ -117,9 +118,9 @@ impl Plan {
     ghost use Rattle.hc_plan.specs.RegisterBlocks.{blocks_by_rank, has_at};
     ghost use Rattle.hc_plan.specs.Shares.{share_at};
 
-    /// The plan of a project at its opening: the mandatory group alone is present and the epoch is 0.
-    /// Otherwise `TooManyDatagrams` with the lowest task that needs more than 16, or `Memory` where a
-    /// growth was refused; the project is then dropped.
+    /// Returns the plan of a project at its opening: only the mandatory group is present, and the epoch is 0. Fails with
+    /// `TooManyDatagrams` and the lowest task that needs more than 16 datagrams, or with `Memory` if an allocation fails; the
+    /// project is then dropped.
     pub fn new(alloc: Global, project: Project) -> Result<Plan, EditFault>
         ensures state { IfOk result (λ plan. plan ≡ opened project) }
         ensures accepted { OnOk result (over_limit_task (line (opened project)) ≡ None) }
@@ -140,15 +141,15 @@ impl Plan {
         })
     }
 
-    /// The number of accepted edits since the opening.
+    /// Returns the number of accepted edits since the opening.
     pub fn epoch(&self) -> u32
         ensures { result ≡ self.now.epoch }
     {
         self.epoch
     }
 
-    /// The declared groups with their assigned PDOs and tasks, and which of them are present. No fault's
-    /// condition holds of them, and no task of the line needs more than 16 datagrams. It takes no memory.
+    /// Returns the declared groups with their assigned PDOs and tasks, each marked as present or not. No fault's condition
+    /// holds of them, and no task of the line needs more than 16 datagrams. It allocates nothing.
     pub fn groups(&self) -> &[Declared]
         ensures value { result.now ≡ self.now.groups }
         ensures project { lowest_fault (groups_of self.now.groups) ≡ None }
@@ -167,58 +168,59 @@ impl Plan {
         &self.places
     }
 
-    /// The block with a number, from 0, in the order of the slave with a station address: for each area
-    /// in record order its sync manager block, then its FMMU block. None where no such slave is present
-    /// or it has fewer blocks. It takes no memory.
+    /// Returns the block with a number, from 0, in the order of the slave with a station address: for each area in record order
+    /// its sync manager block, then its FMMU block. None if no such slave is present or it has fewer blocks. It allocates
+    /// nothing.
     pub fn block(&self, station: u16, number: u8) -> Option<Block>
         ensures { result ≡ block_at (line self.now) station number }
     {
         block_at(&self.indexed(), &self.blocks, station, number)
     }
 
-    /// The block with a number, from 0, in the order of the slave with a rank, counted from 1 over all declared slaves,
-    /// present or not: the block that `block` gives by the slave's station address. None where the slave isn't present
-    /// or has fewer blocks. It takes no memory.
+    /// Returns the block with a number, from 0, in the order of the slave with a rank, counted from 1 over all declared slaves,
+    /// present or not. It is the block that `block` returns by the slave's station address. None if the slave is not present or
+    /// has fewer blocks. It allocates nothing.
     pub fn block_of_rank(&self, rank: u16, number: u8) -> Option<LineBlock>
         ensures { result ≡ block_of_rank (line self.now) rank number }
     {
         block_of_rank(&self.indexed(), &self.blocks, rank, number)
     }
 
-    /// The block at a place, from 0: sixteen places stand for each declared slave, by rank, one for each block number. None if the
-    /// place is empty, as those of a slave outside the line are, or if there is no such place. It takes no time and no memory.
+    /// Returns the block at a place, from 0. Sixteen places stand for each declared slave, by rank, one for each block number.
+    /// None if the place is empty, as those of a slave outside the line are, or if there is no such place. It takes constant
+    /// time, and allocates nothing.
     pub fn block_at_place(&self, place: usize) -> Option<Block>
         ensures { result ≡ has_at (blocks_by_rank self.now.groups) place }
     {
         self.blocks.at(place)
     }
 
-    /// The lowest fault that a remap with these indexes has by itself, as an edit of it is judged; a caller that has them in
-    /// a slice needs no list of them for it. It takes no memory.
+    /// Returns the lowest fault that a remap with these indexes has by itself, as an edit of it is judged. A caller with the
+    /// indexes in a slice needs no list of them. It allocates nothing.
     pub fn remap_fault(&self, station: u16, area: u8, pdos: &[u16]) -> Option<EditFault>
         ensures { result ≡ own_fault self.now.groups (Remap station area pdos.now) }
     {
         remap_fault(&self.indexed(), station, area, pdos)
     }
 
-    /// The number of blocks of the present line. It takes no memory.
+    /// Returns the number of blocks of the present line. It allocates nothing.
     pub fn blocks(&self) -> u32
         ensures { result ≡ length (config (line self.now)).blocks }
     {
         self.indexed().blocks()
     }
 
-    /// The block with a number, from 0, in line and block order, with its slave's station address;
-    /// none where the line has fewer blocks. It takes no memory.
+    /// Returns the block with a number, from 0, in line and block order, with its slave's station address; none if the line has
+    /// fewer blocks. It allocates nothing.
     pub fn nth_block(&self, n: u32) -> Option<(u16, Block)>
         ensures { result ≡ line_block_at (line self.now) n }
     {
         nth_block(&self.indexed(), &self.blocks, n)
     }
 
-    /// The keys where the datagrams of a task, 0 to 7, begin in the present line: `Key::START`, with which the
-    /// first one begins if there is one, and a key for each later one. With `Key::END` after them they are the
-    /// task's boundaries. It takes no memory.
+    /// Returns the keys at which the datagrams of a task, 0 to 7, begin in the present line: `Key::START`, with which the first
+    /// one begins if there is one, and a key for each later one. With `Key::END` after them they are the task's boundaries. It
+    /// allocates nothing.
     pub fn starts(&self, task: u8) -> &[Key]
         requires { task < TASKS }
         ensures keys { result.now ++ END ∷ [] ≡ boundaries (task_list task (line self.now)) }
@@ -227,16 +229,16 @@ impl Plan {
         self.cuts.starts(Task(task))
     }
 
-    /// The station address of the slave at a position of the line, from 0; none where the line is
-    /// shorter. It takes no memory.
+    /// Returns the station address of the slave at a position of the line, from 0; none if the line is shorter. It allocates
+    /// nothing.
     pub fn station(&self, n: u32) -> Option<u16>
         ensures { result ≡ station_at (line self.now) n }
     {
         self.indexed().station(n as usize)
     }
 
-    /// The position in the line, from 0, of the slave with a station address: `UnknownStation` where no
-    /// declared slave has it, `Absent` where that slave's group isn't present. It takes no memory.
+    /// Returns the position in the line, from 0, of the slave with a station address. Fails with `UnknownStation` if no
+    /// declared slave has it, or with `Absent` if that slave's group is not present. It allocates nothing.
     pub fn position(&self, station: u16) -> Result<u32, EditFault>
         ensures { result ≡ position_of self.now station }
     {
@@ -248,9 +250,10 @@ impl Plan {
         }
     }
 
-    /// The slave with a station address adds so much to the working counter of the datagram of a task with a number, 0 to 3: 2
-    /// if the datagram carries outputs of it, and 1 if it carries inputs (ETG.1000.4, 5.4). None if the task has no
-    /// such datagram, or the line has no such slave. All slaves of the line together add the datagram's expected counter.
+    /// Returns the number, 0 to 3, that the slave with a station address adds to the working counter of the datagram of a task
+    /// with a number. It is 2 if the datagram carries outputs of the slave, and 1 if it carries inputs (ETG.1000.4, 5.4). None
+    /// if the task has no such datagram, or the line has no such slave. All slaves of the line together add the datagram's
+    /// expected counter.
     pub fn counter_share(&self, task: u8, datagram: u8, station: u16) -> Option<u16>
         ensures value { result ≡ share_at (line self.now) task datagram station }
         ensures low { IfSome result (λ share. share ≤ 3) }

@@ -1,5 +1,5 @@
-//! An edit of a plan that is worked out before anything changes. Whoever keeps more of a line than its plan asks it
-//! for the moved blocks, takes all memory that it needs, and then lets the plan carry the edit out.
+//! `PreparedEdit`: an edit of a plan that is worked out before anything changes. A caller that stores more of a line than its
+//! plan reads the moved blocks, allocates all memory that it needs, and then lets the plan carry out the edit.
 ghost use Rattle.std.specs.Prelude.{◌≡◌};
 ghost use Rattle.hc_plan.specs.Gone.{gone_of};
 
@@ -54,7 +54,7 @@ impl PreparedEdit {
     ghost use Rattle.std.specs.Prelude.{◌≡◌};
     ghost use Rattle.hc_plan.specs.Prepared.{IsPrepared};
 
-    /// The report that carrying the edit out returns.
+    /// Returns the report that carrying out the edit will return.
     pub fn report(&self) -> &Report
         ensures report { result.now ≡ self.now.report }
         ensures prepared { IsPrepared self.now }
@@ -62,8 +62,8 @@ impl PreparedEdit {
         &self.report
     }
 
-    /// The blocks that move, with their new bytes, in line and block order: those that the report names. It takes
-    /// no memory.
+    /// Returns the blocks that move, with their new bytes, in line and block order: those that the report names. It allocates
+    /// nothing.
     pub fn blocks(&self) -> &[RankedBlock]
         ensures blocks { result.now ≡ self.now.blocks }
         ensures prepared { IsPrepared self.now }
@@ -71,7 +71,7 @@ impl PreparedEdit {
         self.blocks.as_slice()
     }
 
-    /// The slaves that leave the line: those of a group that goes. It takes no memory.
+    /// Returns the slaves that leave the line: those of a group that goes. It allocates nothing.
     pub fn gone(&self) -> Gone
         ensures gone { result ≡ self.now.gone }
         ensures prepared { IsPrepared self.now }

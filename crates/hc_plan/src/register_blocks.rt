@@ -31,7 +31,7 @@ impl Model for RegisterBlocks {
     ghost view = { λ blocks. blocks.places.items };
 }
 
-/// Whether two blocks have the same bytes at the same register.
+/// True if two blocks have the same bytes at the same register.
 fn is_same(a: &Block, b: &Block) -> bool
     ensures { result ≡ same_bytes a.now b.now }
 {
@@ -48,8 +48,8 @@ impl RegisterBlocks {
     ghost use Rattle.hc_plan.specs.inner.MovedBlocks.{is_stored};
     ghost use Rattle.hc_plan.specs.inner.RegisterBlocks.{BlocksAreEdited, with_all_moved, with_moved};
 
-    /// The blocks of the line of a project's declared groups, by where the areas of the line are. Fails with `AllocError` if
-    /// an allocation fails.
+    /// Returns the blocks of the line of a project's declared groups, from the places of the line's areas. Fails with
+    /// `AllocError` if an allocation fails.
     pub(crate) fn open(
         alloc: Global,
         groups: &Indexed<'_>,
@@ -66,7 +66,7 @@ impl RegisterBlocks {
         Ok(RegisterBlocks { places })
     }
 
-    /// The block at a place, from 0; none where the place is empty, or there is no such place.
+    /// Returns the block at a place, from 0; none if the place is empty, or if there is no such place.
     pub(crate) fn at(&self, place: usize) -> Option<Block>
         ensures { result ≡ has_at self.now place }
     {
@@ -76,7 +76,7 @@ impl RegisterBlocks {
         }
     }
 
-    /// Whether a block is stored at its place, with its bytes and register.
+    /// True if a block is stored at its place, with its bytes and register.
     pub(crate) fn has(&self, block: &RankedBlock) -> bool
         requires { 1 ≤ block.now.rank }
         ensures { result ≡ is_stored self.now block.now }
@@ -87,7 +87,7 @@ impl RegisterBlocks {
         }
     }
 
-    /// The block with a number, from 0, of the slave with a rank, counted from 1; none where it has none.
+    /// Returns the block with a number, from 0, of the slave with a rank, counted from 1; none if the slave has no such block.
     pub(crate) fn of_slave(&self, rank: u16, number: u8) -> Option<Block>
         ensures low { number < 16 → result ≡ has_at self.now (place rank number) }
         ensures high { 16 ≤ number → result ≡ None }
@@ -139,8 +139,8 @@ impl RegisterBlocks {
         }
     }
 
-    /// An edit that declares nothing was accepted: these slaves left the line, and these are its moved blocks, as the line now
-    /// configures them. It takes the time of the blocks that left and moved.
+    /// Follows an accepted edit that declares nothing. `gone` are the slaves that left the line, and `moved` its moved blocks,
+    /// as the line now configures them. It takes the time of the blocks that left and moved.
     pub(crate) fn change(&mut self, gone: Gone, moved: &[RankedBlock])
         requires edited { BlocksAreEdited self.old gone moved.now }
         ensures { (is : BlocksAreEdited self.old gone moved.now) → self.new ≡ map block_in is.new }
@@ -161,7 +161,7 @@ impl RegisterBlocks {
         Room::for_more(alloc, &self.places, SLAVE_PLACES * slaves)
     }
 
-    /// Adds empty places of so many slaves after the others, in memory that was taken before.
+    /// Adds empty places of so many slaves after the others, in memory that was allocated before.
     pub(crate) fn admit(&mut self, room: Room<Option<Block>>, slaves: usize)
         requires few { slaves < 65536 }
         requires room { length self.old + 16 * slaves ≤ room }

@@ -1,5 +1,5 @@
-//! What a slave adds to the working counter of a datagram (ETG.1000.4, 5.4: a slave that reads adds 1, one that writes 2,
-//! one that does both 3). The plan answers it from the places of the slave's areas.
+//! The share of a slave in the working counter of a datagram, from the places of the slave's areas (ETG.1000.4, 5.4: a slave
+//! that reads adds 1, one that writes 2, one that does both 3).
 ghost use Rattle.std.specs.Prelude.{◌≡◌, ◌+◌, ◌≤◌, IfSome, length};
 ghost use Rattle.std.specs.List.{enumerate_from, list_any};
 ghost use Rattle.hc_records.specs.declared.limits.TheConstants.{MOST_AREAS};
@@ -14,7 +14,7 @@ use hc_records::keys::Key;
 use hc_records::records::{Area, Dir};
 use hc_records::task::Task;
 
-/// Whether an area at an index of a slave with a rank has a direction and lies in the datagram of a task with a number.
+/// True if an area at an index of a slave with a rank has a direction and lies in the datagram of a task with a number.
 fn is_carried(
     layout: &PlacedLine,
     task: Task,
@@ -40,8 +40,8 @@ fn is_carried(
     }
 }
 
-/// Whether one of the areas of a slave with a rank, from an index on, has a direction and lies in the datagram. A
-/// slave has 8 areas at most, so deep is this recursion.
+/// True if one of the areas of a slave with a rank, from an index on, has a direction and lies in the datagram. A slave has at
+/// most 8 areas, which bounds the recursion.
 fn has_area(
     layout: &PlacedLine,
     task: Task,
@@ -63,7 +63,7 @@ fn has_area(
     }
 }
 
-/// What a slave with a rank and these areas adds to the counter of a datagram.
+/// Returns the number, 0 to 3, that a slave with a rank and these areas adds to the counter of a datagram.
 fn share(layout: &PlacedLine, task: Task, datagram: u8, rank: u16, areas: &[Area]) -> u16
     requires { length areas.now ≤ MOST_AREAS }
     ensures value { result ≡ share_in layout.now (task, datagram) rank areas.now }
@@ -82,7 +82,8 @@ fn share(layout: &PlacedLine, task: Task, datagram: u8, rank: u16, areas: &[Area
     writes + reads
 }
 
-/// What the slave with a station address adds to the counter of a datagram; none where no such slave is in the line.
+/// Returns the number, 0 to 3, that the slave with a station address adds to the counter of a datagram; none if no such slave
+/// is in the line.
 pub(crate) fn share_of(
     groups: &Indexed<'_>,
     layout: &PlacedLine,
@@ -105,8 +106,8 @@ pub(crate) fn share_of(
     }
 }
 
-/// In the line of a project, what its slaves add to the working counter of a datagram is the datagram's expected
-/// counter. The function does nothing: its contract is the law.
+/// The numbers that the slaves of a project's line add to the working counter of a datagram sum up to its expected counter. The
+/// function does nothing: its contract is the law.
 pub fn shares_add_up()
     ensures { SharesAddUp }
 {}

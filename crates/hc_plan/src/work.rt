@@ -1,4 +1,4 @@
-//! `Work`: the part of a prepared edit that carrying it out needs, so that this allocates nothing and can't fail.
+//! `Work`: the part of a prepared edit that carrying it out needs, so that this allocates nothing and cannot fail.
 use crate::declaring::Declaration;
 use hc_cuts::starts::LineStarts;
 use hc_groups::prepared::Prepared;

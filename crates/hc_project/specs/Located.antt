@@ -14,7 +14,7 @@ use Rattle.hc_project.specs.Repeated.{alias_at, area_unknown, area_wide, areas_o
 use Rattle.hc_project.specs.Levels.{declared_groups}
 use Rattle.hc_project.specs.Text.{project_in, groups_or_fault}
 
--- the first place in the groups that were read at which a fault's condition holds
+-- the first place of a fault in the groups that were read
 abbrev pub group_location : ProjectFault → List Group → Option Location
 group_location fault.RepeatedAlias groups = first_repeat (each_at (alias_at document) 0 groups)
 group_location fault.RepeatedStation groups = first_repeat (each_at (stations_at document) 0 groups)
@@ -25,7 +25,7 @@ group_location fault.UnknownPdo groups = first_from (in_slaves (in_areas area_un
 group_location fault.AreaTooBig groups = first_from (in_slaves (in_areas area_wide) document) 0 groups
 group_location _ groups = None
 
--- the first place in the text that was read at which a fault's condition holds
+-- the first place of a fault in the text that was read
 abbrev pub location_of : ProjectFault → Reading (List Group) → Option Location
 location_of fault.MissingField groups = groups.syntax_faults.missing
 location_of fault.OutOfRange groups = groups.syntax_faults.outside
@@ -45,7 +45,7 @@ pub record IsUnread (text : List ℕ) (line column : ℕ) : Type 0 where
   pub refused : project_in text ≡ Err fault.NotToml
   pub within : (front : ℕ) × (front ≤ length text) × ((line, column) ≡ position_from (1, 1) (take front text))
 
--- a text has the fault, which is its lowest, and the place is the first in its document at which the fault's condition holds
+-- a text has this fault, which is its lowest, and this is the fault's first place in its document
 pub record IsFaulty (text : List ℕ) (lowest : ProjectFault) (location : Location) : Type 0 where
   pub refused : project_in text ≡ Err lowest
   pub placed : (members : Members) × (parse_document text ≡ Some members) × (location_of lowest (declared_groups (table members)) ≡ Some location)

@@ -42,7 +42,7 @@ unfoldable pub first_some : {P : Type 0} → Option P → Option P → Option P
 first_some None other = other
 first_some (Some found) other = Some found
 
--- the place in the first item, from an index on, in which one is found
+-- the first place that a search finds in the items, from an index on
 abbrev pub first_from : {X P : Type 0} → (ℕ → X → Option P) → ℕ → List X → Option P
 first_from find index [] = None
 first_from find index (x ∷ xs) = first_some (find index x) (first_from find (suc index) xs)

@@ -106,7 +106,7 @@ managers_repeated place index slave = first_repeat (each_at (manager_at (group_s
 abbrev pub areas_overlapping : Place → ℕ → Slave → Option Location
 areas_overlapping place index slave = first_related extents_meet (each_at (extent_at (group_slave_place place index slave)) 0 slave.areas)
 
--- the index at which a number occurs first
+-- the index of a number's first occurrence
 abbrev pub index_of : ℕ → List ℕ → Option ℕ
 index_of number list = first_from (λ index other. if number == other then Some index else None) 0 list
 
@@ -135,10 +135,10 @@ assigned_wide area place index number =
 abbrev pub area_wide : Place → ℕ → Area → Option Location
 area_wide place index area = first_from (assigned_wide area (in_area place index)) 0 area.assigned
 
--- the place in the first area of a slave in which one is found
+-- the first place that a search finds in the areas of a slave
 abbrev pub in_areas : (Place → ℕ → Area → Option Location) → Place → ℕ → Slave → Option Location
 in_areas finds place index slave = first_from (finds (group_slave_place place index slave)) 0 slave.areas
 
--- the place in the first slave of a group in which one is found
+-- the first place that a search finds in the slaves of a group
 abbrev pub in_slaves : (Place → ℕ → Slave → Option Location) → Place → ℕ → Group → Option Location
 in_slaves finds place index group = first_from (finds (group_at index group)) 0 group.slaves

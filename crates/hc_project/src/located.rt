@@ -1,4 +1,4 @@
-//! `locate`: the lowest fault of a text that is no project, and the first place at which that fault's condition holds.
+//! `locate`: the lowest fault of a text that is no project, and the first place of this fault.
 ghost use Rattle.std.specs.Prelude.{◌≡◌, IfOk};
 ghost use Rattle.toml.specs.View.{view};
 ghost use Rattle.hc_project.specs.Located.{LocatesFault, SaysOf, group_location, position_from, location_of};
@@ -18,11 +18,11 @@ use hc_records::records::Group;
 use std::alloc::{AllocError, Global};
 use toml::Value;
 
-/// The reason for which a text is no project, and its place.
+/// The reason why a text is no project, and its place.
 #[derive(Clone, Copy, Debug, PartialEq, Eq)]
 pub enum Found {
-    /// It is no TOML document (`NotToml`): the line and the column, both counted from 1, at which `toml` gave up. A column
-    /// counts characters.
+    /// It is no TOML document (`NotToml`): the line and the column of the place where `toml` gave up, both counted from 1. A
+    /// column counts characters.
     InText {
         /// The line.
         line: usize,
@@ -33,7 +33,7 @@ pub enum Found {
     InProject {
         /// The lowest fault, as `read_project` returns it.
         fault: ProjectFault,
-        /// The first place at which its condition holds.
+        /// The first place of the fault.
         location: Location,
     },
 }
@@ -113,8 +113,8 @@ fn find_lowest(alloc: Global, document: &Value) -> Result<Option<Found>, AllocEr
     }
 }
 
-/// Returns `None` if `read_project` accepts the text, and otherwise its fault and the first place at which the fault's
-/// condition holds. `AllocError`, whatever the text, if an allocation fails.
+/// Returns `None` if `read_project` accepts the text, and otherwise its fault and the fault's first place. Fails with
+/// `AllocError`, whatever the text, if an allocation fails.
 ///
 /// Places are ordered as the text orders the items of its arrays, and the keys of a table as docs/use/PROJECT_TEXT.md names
 /// them, since a parsed table does not record their order. For two things that may not be together the later one's place

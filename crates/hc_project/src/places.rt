@@ -129,7 +129,7 @@ impl Place {
     }
 }
 
-/// The place at which a fault's condition holds.
+/// The place of a fault.
 #[derive(Clone, Copy, Debug, PartialEq, Eq)]
 pub struct Location {
     /// The place; of two things that may not be together, the later one's.

@@ -9,9 +9,9 @@ use std::alloc::AllocError;
 /// The faults of a value and of all inside it: the first place of each.
 #[derive(Clone, Copy)]
 pub struct SyntaxFaults {
-    /// The first place at which a needed key is absent, or a value is of another kind.
+    /// The first place with a missing key that is needed, or with a value of another kind.
     pub missing: Option<Location>,
-    /// The first place at which a value is outside its range, or an array has too many items or too few.
+    /// The first place with a value outside its range, or with an array of too many or too few items.
     pub outside: Option<Location>,
 }
 

@@ -157,7 +157,7 @@ pub trait Sought<T> {
         ensures { IfOk result (λ found. found ≡ finds place index item.now) };
 }
 
-/// The place in the first item in which one is found.
+/// Searches items in their order, and returns the first place that is found. Fails with `AllocError` if an allocation fails.
 #[tactic(auto, unfolding(crate::specs::Places::first_some))]
 pub fn first_in<T, S: Sought<T>>(alloc: Global, place: Place, items: &[T]) -> Search
     ensures { IfOk result (λ found. found ≡ first_from (S.finds place) 0 items.now) }
@@ -236,7 +236,7 @@ impl Sought<Slave> for OverlappingAreas {
     }
 }
 
-/// The index at which a number is first.
+/// Returns the index of a number's first occurrence; none if it does not occur.
 #[tactic(auto, unfolding(crate::specs::Places::first_some))]
 fn index_of(numbers: &[u16], number: u16) -> Option<usize>
     ensures { result ≡ index_of number numbers.now }

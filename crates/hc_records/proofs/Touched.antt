@@ -1,4 +1,4 @@
--- Where a key is touched, a span of the new list isn't settled.
+-- If a key is touched, a span of the new list is not settled.
 use Rattle.std.proofs.Common.{◌≡◌, ◌<◌, ◌≤◌, Bool, true, false, List, [], ◌∷◌, ◌++◌, Option, Some, None, length, refl, sym, ap, subst, arith, if◌then◌else◌}
 use Rattle.std.specs.Prelude.{All, filter, fold, map, not, ◌||◌}
 use Rattle.std.specs.List.{list_any, zip}

@@ -1,4 +1,4 @@
--- What follows for the logical addresses of a line's datagrams. Each is the contract of a function of `laws`.
+-- Laws of the logical addresses of a line's datagrams. Each is the contract of a function of `laws`.
 use Rattle.std.specs.Prelude.{◌≡◌, ℕ, ◌+◌, ◌<◌, ◌≤◌, None, List}
 use Rattle.hc_records.specs.declared.limits.TheConstants.{TASKS}
 use Rattle.hc_records.specs.Line.{Member, State, groups_of, line}

@@ -9,7 +9,7 @@ use Rattle.hc_records.specs.declared.records.Area.{Area}
 abbrev pub Entry : Type 0
 Entry = Option ℕ × ℕ
 
--- the entries of the offered PDO with an index; none where it isn't offered
+-- the entries of the offered PDO with an index; none if it is not offered
 abbrev pub entries_at : List Pdo → ℕ → List Entry
 entries_at offered index = option_map_or (λ pdo. pdo.entries) (find (λ pdo. pdo.index == index) offered) []
 
@@ -17,7 +17,7 @@ entries_at offered index = option_map_or (λ pdo. pdo.entries) (find (λ pdo. pd
 abbrev pub assigned_entries : Area → List Entry
 assigned_entries area = flat_map (entries_at area.offered) area.assigned
 
--- the sum of the bits of entries, gaps included; 0 where there is none
+-- the sum of the bits of entries, gaps included; 0 if there is none
 abbrev pub entry_bits : List Entry → ℕ
 entry_bits entries = sum_by (λ entry. entry.1) entries
 
@@ -29,6 +29,6 @@ width area = entry_bits (assigned_entries area)
 abbrev pub offers : Area → ℕ → Bool
 offers area index = list_any (λ pdo. pdo.index == index) area.offered
 
--- one of the indexes isn't offered
+-- one of the indexes is not offered
 abbrev pub has_unknown : List ℕ → Area → Bool
 has_unknown pdos area = list_any (λ index. not (offers area index)) pdos

@@ -1,4 +1,4 @@
--- What an edit makes of a state, and when it is refused.
+-- The state after an edit, and the faults of edits.
 use Rattle.std.specs.Prelude.{ℕ, ◌+◌, ◌==◌, ◌&&◌, not, nat_lt, is_none, is_some, unwrap_or, Bool, true, false, if◌then◌else◌, List, [], ◌∷◌, ◌++◌, length, map, find, slice_get, option_and_then, Option, Some, None, Result, Ok, Err}
 use Rattle.std.specs.Option.{option_map_or}
 use Rattle.std.specs.Result.{result_unwrap_or}
@@ -51,12 +51,12 @@ is_too_big pdos area = nat_lt MOST_AREA_BITS (width (record area { assigned = pd
 abbrev pub over_limit_task : List Member → Option ℕ
 over_limit_task line = find (λ task. nat_lt MOST_DATAGRAMS (datagram_count (task_places task line))) tasks
 
--- the declared group, with its presence set where it has the alias
+-- the declared group, with its presence set if it has the alias
 abbrev pub with_presence : ℕ → Bool → Declared → Declared
 with_presence alias present declared =
     if declared.group.alias == alias then record declared { present = present } else declared
 
--- the slave, with an area changed where it has the station address
+-- the slave, with an area changed if it has the station address
 abbrev pub with_area : ℕ → ℕ → (Area → Area) → Slave → Slave
 with_area station area change slave =
     if slave.station == station then record slave { areas = changed_at area change slave.areas } else slave
@@ -70,7 +70,7 @@ with_slaves change declared =
 abbrev pub absent : Group → Declared
 absent group = record { group = group; present = false }
 
--- the declared groups after an edit that isn't refused
+-- the declared groups after an edit that is not refused
 abbrev pub groups_after : List Declared → Edit → List Declared
 groups_after groups (Connect alias) = map (with_presence alias true) groups
 groups_after groups (Disconnect alias) = map (with_presence alias false) groups
@@ -90,7 +90,7 @@ declares (Declare group) = true
 abbrev pub changed : State → Edit → State
 changed state edit = record { groups = groups_after state.groups edit; epoch = state.epoch + 1 }
 
--- what Remap and Move ask of their slave and area
+-- the faults of Remap and Move by their slave and area
 abbrev pub area_faults : State → ℕ → ℕ → List (Bool × EditFault)
 area_faults state station area =
     (not (is_declared_station state station), UnknownStation)

@@ -27,7 +27,7 @@ end_of areas = fold (λ end area. max end (area.bit + area.bits)) 0 areas
 abbrev pub datagram_length : List Placed → ℕ → ℕ
 datagram_length areas datagram = (end_of (inside datagram areas) + 7) / 8
 
--- how many datagrams a task has
+-- the number of datagrams of a task
 abbrev pub datagram_count : List Placed → ℕ
 datagram_count areas = fold (λ count area. max count (area.datagram + 1)) 0 areas
 
@@ -44,7 +44,7 @@ logical_address task datagram = 0x01000000 * (task + 1) + 2048 * datagram
 abbrev pub image_length : List Placed → ℕ
 image_length areas = datagram_offset areas (datagram_count areas)
 
--- the byte of the image where an area begins
+-- the byte of the image at which an area begins
 abbrev pub first_byte : List Placed → Placed → ℕ
 first_byte areas area = datagram_offset areas area.datagram + area.bit / 8
 
@@ -60,7 +60,8 @@ input_length areas = image_length areas - output_length areas
 abbrev pub area_is_of : ℕ → Dir → Key → Bool
 area_is_of rank dir key = (key.rank == rank) && same_dir key.dir dir
 
--- what a slave adds to the working counter of a datagram with the areas of these keys: 2 where one is an output area of it, 1 where one is an input area
+-- the number that a slave adds to the working counter of a datagram with the areas of these keys: 2 if one is an output area of
+-- it, and 1 if one is an input area
 abbrev pub counter_share : List Key → ℕ → ℕ
 counter_share keys rank =
     (if list_any (area_is_of rank Out) keys then 2 else 0) + (if list_any (area_is_of rank In) keys then 1 else 0)
@@ -70,7 +71,7 @@ abbrev pub expected_counter : ℕ → ℕ → List Member → ℕ
 expected_counter task datagram line =
     sum_by (counter_share (map (λ area. area.key) (inside datagram (task_places task line)))) (map (λ member. member.rank) line)
 
--- where a variable is: its task and datagram, its first bit in the datagram, its bits and its direction
+-- the place of a variable: its task and datagram, its first bit in the datagram, its bits and its direction
 pub record VariablePlace : Type 0 where
   pub task : ℕ
   pub datagram : ℕ

@@ -1,4 +1,4 @@
--- What follows from the definitions, so that a reader can trust them. Each is the contract of a function of `laws`.
+-- Laws that follow from the definitions. Each is the contract of a function of `laws`.
 use Rattle.std.specs.Prelude.{◌≡◌, ℕ, ◌+◌, ◌*◌, ◌%◌, ◌<◌, ◌≤◌, ◌⊎◌, true, IsTrue, All, AllPairs, Contains, None, List, [], ◌∷◌, ◌++◌, length, map, if◌then◌else◌}
 use Rattle.std.specs.List.{flat_map}
 use Rattle.hc_records.specs.declared.limits.TheConstants.{MOST_AREA_BITS, MOST_DATAGRAM_BYTES}
@@ -32,7 +32,7 @@ PlacesKeepTheList = (front : Front) (list : List Keyed) → map (λ area. (area.
 abbrev pub LiesInside : Placed → Type 0
 LiesInside area = area.bit + area.bits ≤ MOST_AREA_BITS
 
--- so does each area of a list that is packed
+-- `LiesInside` holds for each area of a list that is packed
 abbrev pub AreasLieInside : Type 0
 AreasLieInside = (list : List Keyed) → All IsPackable list → All LiesInside (packed empty_front list)
 
@@ -40,7 +40,7 @@ AreasLieInside = (list : List Keyed) → All IsPackable list → All LiesInside 
 abbrev pub BeginsByte : Placed → Type 0
 BeginsByte area = 8 ≤ area.bits → area.bit % 8 ≡ 0
 
--- so does each such area of a list that is packed
+-- `BeginsByte` holds for each area of a list that is packed
 abbrev pub WideAreasBeginBytes : Type 0
 WideAreasBeginBytes = (list : List Keyed) → All BeginsByte (packed empty_front list)
 
@@ -49,7 +49,7 @@ pub record IsDatagramLength (bytes : ℕ) : Type 0 where
   pub some : 1 ≤ bytes
   pub most : bytes ≤ MOST_DATAGRAM_BYTES
 
--- so has each datagram of a list that is packed
+-- `IsDatagramLength` holds for each datagram of a list that is packed
 abbrev pub DatagramsAreSendable : Type 0
 DatagramsAreSendable =
     (list : List Keyed) (datagram : ℕ) → All IsPackable list → datagram < datagram_count (packed empty_front list)
@@ -59,7 +59,7 @@ DatagramsAreSendable =
 abbrev pub LiesBefore : Placed → Placed → Type 0
 LiesBefore a b = (a.datagram < b.datagram) ⊎ ((a.datagram ≡ b.datagram) × (a.bit + a.bits ≤ b.bit))
 
--- so two areas of a task share no bit
+-- two areas of a task share no bit
 abbrev pub AreasShareNoBit : Type 0
 AreasShareNoBit = (list : List Keyed) → AllPairs LiesBefore (packed empty_front list)
 
@@ -108,7 +108,7 @@ CutsAreAlone =
     → packed empty_front (before ++ area ∷ areas)
     ≡ packed empty_front before ++ map (raised (datagram_count (packed empty_front before))) (packed empty_front (area ∷ areas))
 
--- the boundary keys from an area on, where a datagram is being filled
+-- the boundary keys from an area on, while a datagram is being filled
 abbrev pub cuts_from : Front → List Keyed → List Key
 cuts_from front [] = []
 cuts_from front (area ∷ areas) =
@@ -116,7 +116,7 @@ cuts_from front (area ∷ areas) =
     then cuts_from (front_with (placed_at front area)) areas
     else area.0 ∷ cuts_from (front_with (placed_at front area)) areas
 
--- the boundaries inside a list are the keys of the areas that don't fit the datagram being filled
+-- the boundaries inside a list are the keys of the areas that do not fit the datagram being filled
 abbrev pub BoundariesAreCuts : Type 0
 BoundariesAreCuts = (list : List Keyed) → All IsPackable list → later_keys list ≡ cuts_from empty_front list
 
@@ -135,7 +135,7 @@ BoundariesHaveWidth =
 abbrev pub UntouchedIsSettled : Type 0
 UntouchedIsSettled = (list : List Keyed) → unsettled_spans list list ≡ 0
 
--- the bit of the task's image where an area begins
+-- the first bit of an area in the task's image
 abbrev pub area_image_bit : List Placed → Placed → ℕ
 area_image_bit areas area = 8 * datagram_offset areas area.datagram + area.bit
 
@@ -144,7 +144,7 @@ pub record KeepsToItsPart (areas : List Placed) (area : Placed) : Type 0 where
   pub output : area.key.dir ≡ Out → area_image_bit areas area + area.bits ≤ 8 * output_length areas
   pub input : area.key.dir ≡ In → 8 * output_length areas ≤ area_image_bit areas area
 
--- so the outputs of a task are the first bytes of its image, and its inputs are the bytes after them
+-- the outputs of a task are the first bytes of its image, and its inputs are the bytes after them
 abbrev pub OutputsComeFirst : Type 0
 OutputsComeFirst = (list : List Keyed) → Ascends list → All (KeepsToItsPart (packed empty_front list)) (packed empty_front list)
 
@@ -153,7 +153,7 @@ pub record LiesBetween (list : List Keyed) : Type 0 where
   pub above : All (λ area. IsTrue (is_before START area.0)) list
   pub below : All (λ area. IsTrue (is_before area.0 END)) list
 
--- where the width of a key differs, at least one span of the new list isn't settled
+-- if the width of a key differs, at least one span of the new list is not settled
 abbrev pub TouchedCountsOnce : Type 0
 TouchedCountsOnce =
     (old new : List Keyed) → LiesBetween old → LiesBetween new → 0 < length (touched old new) → 1 ≤ unsettled_spans old new

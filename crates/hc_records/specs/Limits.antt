@@ -1,4 +1,5 @@
--- What every project keeps, as relations: each value in its range, each name once, each area of a slave in memory of its own.
+-- The limits of every project, as relations: each value in its range, each name once, each area of a slave in memory of its
+-- own.
 use Rattle.std.specs.Prelude.{◌≡◌, ◌≢◌, ℕ, ◌+◌, ◌<◌, ◌≤◌, false, All, AllPairs, List, [], ◌∷◌, length}
 use Rattle.hc_records.specs.declared.limits.TheConstants.{LAST_SYNC_MANAGER, MEMORY_START, MEMORY_END, MOST_AREA_BITS, MOST_AREAS, MOST_ENTRIES, MOST_ENTRY_BITS, MOST_GROUPS, MOST_PDOS, MOST_SLAVES, TASKS}
 use Rattle.hc_records.specs.declared.records.Pdo.{Pdo}
@@ -46,7 +47,8 @@ pub record Reaches (area : Area) (byte : ℕ) : Type 0 where
 abbrev pub KeepApart : Area → Area → Type 0
 KeepApart a b = (byte : ℕ) → Reaches a byte → ¬ (Reaches b byte)
 
--- a slave is within its limits: a station address that isn't 0, at most 8 areas, each within its own limits, with sync managers and memory of their own
+-- a slave is within its limits: a station address other than 0, at most 8 areas, each within its own limits, with sync managers
+-- and memory of their own
 pub record IsSlaveInside (slave : Slave) : Type 0 where
   pub station : 1 ≤ slave.station
   pub few : length slave.areas ≤ MOST_AREAS

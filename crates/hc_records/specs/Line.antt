@@ -14,7 +14,7 @@ pub record State : Type 0 where
 abbrev pub opened_group : Group → Declared
 opened_group group = record { group = group; present = group.alias == 0 }
 
--- the state where a project is opened: only the mandatory group is present, and the epoch is 0
+-- the state of a project at its opening: only the mandatory group is present, and the epoch is 0
 abbrev pub opened : List Group → State
 opened groups = record { groups = map opened_group groups; epoch = 0 }
 

@@ -11,7 +11,7 @@ some_pair related (x ∷ xs) = list_any (related x) xs || some_pair related xs
 abbrev pub has_repeat : List ℕ → Bool
 has_repeat = some_pair (λ x y. y == x)
 
--- the list with its element at an index changed; the same list where there is none
+-- the list with its element at an index changed; unchanged if there is none
 abbrev pub changed_at : {X : Type 0} → ℕ → (X → X) → List X → List X
 changed_at index change [] = []
 changed_at zero change (x ∷ xs) = change x ∷ xs

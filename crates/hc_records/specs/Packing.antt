@@ -1,4 +1,4 @@
--- How the areas of a task's list are packed into datagrams, from the front (this project's profile).
+-- The packing of the areas of a task's list into datagrams, from the first datagram on (this project's profile).
 use Rattle.std.specs.Prelude.{ℕ, ◌+◌, ◌*◌, ◌/◌, nat_le, ◌||◌, if◌then◌else◌, Bool, List, [], ◌∷◌}
 use Rattle.hc_records.specs.declared.limits.TheConstants.{MOST_AREA_BITS}
 use Rattle.hc_records.specs.declared.records.Dir.{Dir}
@@ -17,7 +17,7 @@ pub record Front : Type 0 where
 abbrev pub empty_front : Front
 empty_front = record { datagram = 0; bit = 0; last = Out }
 
--- an area, its width, and the datagram and the bit where it begins
+-- an area, its width, its datagram, and its first bit there
 pub record Placed : Type 0 where
   pub key : Key
   pub bits : ℕ
@@ -40,7 +40,7 @@ beginning front area = if begins_byte front area then next_byte front.bit else f
 abbrev pub fits : Front → Keyed → Bool
 fits front area = nat_le (beginning front area + area.1) MOST_AREA_BITS
 
--- where an area is: in the datagram being filled where it fits, else at bit 0 of a new one
+-- the place of an area: in the datagram being filled if it fits, otherwise at bit 0 of a new one
 abbrev pub placed_at : Front → Keyed → Placed
 placed_at front area =
     if fits front area

@@ -1,4 +1,4 @@
--- What every project keeps: each value in its range, and each name once.
+-- The conditions of every project: each value in its range, and each name once.
 use Rattle.std.specs.Prelude.{ℕ, ◌+◌, ◌-◌, ◌/◌, ◌==◌, ◌&&◌, ◌||◌, not, min, nat_lt, Bool, true, List, [], ◌∷◌, length, map, sum_by, Option}
 use Rattle.std.specs.List.{filter_map, flat_map, list_any}
 use Rattle.hc_records.specs.declared.limits.TheConstants.{LAST_SYNC_MANAGER, MEMORY_START, MEMORY_END, MOST_AREA_BITS, MOST_AREAS, MOST_ENTRIES, MOST_ENTRY_BITS, MOST_GROUPS, MOST_PDOS, MOST_SLAVES, TASKS}
@@ -61,11 +61,11 @@ abbrev pub slave_outside : Slave → Bool
 slave_outside slave =
     (slave.station == 0) || nat_lt MOST_AREAS (length slave.areas) || list_any area_outside slave.areas
 
--- a group that can't come and go: it has no alias, or no slave
+-- a group that cannot come and go: it has no alias, or no slave
 abbrev pub is_bare : Group → Bool
 is_bare group = (group.alias == 0) || (length group.slaves == 0)
 
--- the groups don't begin with the mandatory one, which has alias 0, or a later one is bare
+-- the groups do not begin with the mandatory one, which has alias 0, or a later one is bare
 abbrev pub is_misplaced : List Group → Bool
 is_misplaced [] = true
 is_misplaced (group ∷ groups) = not (group.alias == 0) || list_any is_bare groups
@@ -129,7 +129,7 @@ has_repeated_variable groups = has_repeat (slave_names (slaves_of groups))
 abbrev pub same_index : Pdo → Pdo → Bool
 same_index a b = b.index == a.index
 
--- the assigned PDOs of an area aren't offered PDOs, each once, or two of the offered ones have one index
+-- the assigned PDOs of an area are not offered PDOs, each once, or two of the offered ones have one index
 abbrev pub has_unknown_pdo : Area → Bool
 has_unknown_pdo area =
     has_unknown area.assigned area || has_repeat area.assigned || some_pair same_index area.offered

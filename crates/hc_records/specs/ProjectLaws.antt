@@ -1,4 +1,4 @@
--- What a project's conditions say of its line and of its areas. Each is the contract of a function of `laws`.
+-- Laws of the line and the areas of a project, from the project's conditions. Each is the contract of a function of `laws`.
 use Rattle.std.specs.Prelude.{◌≡◌, ℕ, ◌*◌, ◌<◌, ◌≤◌, false, All, AllPairs, None, List, [], ◌∷◌, ◌++◌, map}
 use Rattle.hc_records.specs.declared.limits.TheConstants.{MEMORY_END, MEMORY_START}
 use Rattle.hc_records.specs.declared.records.Area.{Area}
@@ -30,7 +30,7 @@ StationsAreDistinct =
 abbrev pub HoldsItsWidth : Area → Type 0
 HoldsItsWidth area = width area ≤ 8 * reach area
 
--- so do those of each area of a project
+-- `HoldsItsWidth` holds for each area of a project
 abbrev pub ReachesHoldWidths : Type 0
 ReachesHoldWidths =
     (groups : List Group) → lowest_fault groups ≡ None → All (λ slave. All HoldsItsWidth slave.areas) (slaves_of groups)
@@ -45,7 +45,7 @@ pub record KeepsAreasApart (slave : Slave) : Type 0 where
   pub inside : All (λ area. (byte : ℕ) → Reaches area byte → IsProcessByte byte) slave.areas
   pub apart : AllPairs KeepApart slave.areas
 
--- so do those of each slave of a project
+-- `KeepsAreasApart` holds for each slave of a project
 abbrev pub ReachesShareNoByte : Type 0
 ReachesShareNoByte = (groups : List Group) → lowest_fault groups ≡ None → All KeepsAreasApart (slaves_of groups)
 

@@ -6,7 +6,7 @@ use Rattle.hc_records.specs.declared.limits.TheConstants.{LAST_EPOCH, LAST_SYNC_
 most-slaves : MOST_SLAVES ≡ 2048
 most-slaves = refl
 
--- and 512 groups, the mandatory one included (this project's profile)
+-- a project has at most 512 groups, the mandatory one included (this project's profile)
 most-groups : MOST_GROUPS ≡ 512
 most-groups = refl
 
@@ -50,7 +50,7 @@ last-sync_manager = refl
 memory-start : MEMORY_START ≡ 0x1000
 memory-start = refl
 
--- and ends before this byte (this project's profile)
+-- the memory for process data ends before this byte (this project's profile)
 memory-end : MEMORY_END ≡ 0x3000
 memory-end = refl
 

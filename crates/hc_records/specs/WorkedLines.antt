@@ -44,7 +44,7 @@ with_both station bytes = record {
 abbrev group_of : ℕ → List Slave → Group
 group_of alias slaves = record { alias = alias; slaves = slaves }
 
--- what is seen of a task: its parts, and of each datagram its length in bytes and its expected counter
+-- a task's parts, and for each datagram its length in bytes and its expected counter
 abbrev parts : ℕ → State → ℕ × ℕ
 parts task state =
     let areas = task_places task (line state) in (output_length areas, input_length areas)
@@ -54,11 +54,11 @@ datagrams task state =
     let areas = task_places task (line state) in
     map (λ d. (datagram_length areas d, expected_counter task d (line state))) (range_with_len 0 (datagram_count areas))
 
--- where the areas begin: datagram and bit
+-- the datagram and the first bit of each area
 abbrev starts : ℕ → State → List (ℕ × ℕ)
 starts task state = map (λ area. (area.datagram, area.bit)) (task_places task (line state))
 
--- recut of an edit that isn't refused
+-- recut of an edit that is not refused
 abbrev recut_by : State → Edit → ℕ
 recut_by state edit = recut (line state) (line (state_after state edit))
 

@@ -104,7 +104,7 @@ pub struct Group {
 pub struct Declared {
     /// The group, with the assignments and tasks that it has now or will return with.
     pub group: Group,
-    /// Whether its slaves are in the line.
+    /// True if its slaves are in the line.
     pub present: bool,
 }
 

@@ -65,15 +65,15 @@ mapped_bytes area mapping =
     ++ to_le_bytes w16 area.phys
     ++ 0 ∷ type_of area.dir ∷ 1 ∷ 0 ∷ 0 ∷ 0 ∷ []
 
--- an area that isn't mapped, which has 0 bits, has an FMMU block of zeros
+-- an area that is not mapped, which has 0 bits, has an FMMU block of zeros
 abbrev pub fmmu_bytes : Area → Option Mapping → List ℕ
 fmmu_bytes area mapping = option_map_or (mapped_bytes area) mapping (replicate 16 0)
 
--- where an area is mapped, by its place
+-- the mapping of an area, by its place
 abbrev pub mapping_at : ℕ → Placed → Mapping
 mapping_at task placed = record { address = logical_address task placed.datagram; bit = placed.bit }
 
--- where an area of the line is mapped: none where it has 0 bits
+-- the mapping of an area of the line; none if it has 0 bits
 abbrev pub mapping_of : List Member → ℕ → Key → Option Mapping
 mapping_of line task key =
     option_map (mapping_at task) (find (λ placed. same_key placed.key key) (task_places task line))
@@ -88,7 +88,8 @@ abbrev pub sync_manager_block : Area → RegisterBlock
 sync_manager_block area =
     record { register = SYNC_MANAGER_BLOCKS + SYNC_MANAGER_BLOCK_BYTES * area.sm; bytes = sync_manager_bytes area }
 
--- the FMMU block of the area at an index of its slave's record, with its register: 0x0600 + 16 × the index, counted from 0; zeros where it isn't mapped
+-- the FMMU block of the area at an index of its slave's record, with its register: 0x0600 + 16 × the index, counted from 0;
+-- zeros if it is not mapped
 abbrev pub fmmu_block : ℕ → Area → Option Mapping → RegisterBlock
 fmmu_block index area mapping =
     record { register = FMMU_BLOCKS + FMMU_BLOCK_BYTES * index; bytes = fmmu_bytes area mapping }
@@ -126,14 +127,14 @@ line_blocks line = flat_map (member_blocks line) line
 abbrev pub same_bytes : RegisterBlock → RegisterBlock → Bool
 same_bytes a b = (a.register == b.register) && bytes_eq a.bytes b.bytes
 
--- the same bytes at the same register of the same slave
+-- two blocks have the same bytes at the same register of the same slave
 abbrev pub same_block : LineBlock → LineBlock → Bool
 same_block a b = (a.station == b.station) && same_bytes a.block b.block
 
--- the blocks of the new line that weren't blocks of the old one
+-- the blocks of the new line that were not blocks of the old one
 abbrev pub moved_blocks : List Member → List Member → List LineBlock
 moved_blocks old new = filter (λ block. not (list_any (same_block block) (line_blocks old))) (line_blocks new)
 
--- how many blocks an edit moves: the blocks of the new line that weren't blocks of the old one
+-- the number of blocks that an edit moves: the blocks of the new line that were not blocks of the old one
 abbrev pub moved : List Member → List Member → ℕ
 moved old new = length (moved_blocks old new)

@@ -1,4 +1,5 @@
--- What is written into a block is read from it, a slave's blocks are apart, and a datagram's counter is counted in one pass. Each is the contract of a function of `laws`.
+-- Laws of the blocks and of the working counter: the fields of a block are read as they were written, a slave's blocks are
+-- apart, and a datagram's counter is counted in one pass. Each is the contract of a function of `laws`.
 use Rattle.std.specs.Prelude.{◌≡◌, ℕ, ◌+◌, ◌/◌, ◌%◌, ◌<◌, ◌≤◌, ◌^◌, length, slice_index, sum_by, All, AllPairs, Contains, IsTrue, List, None}
 use Rattle.hc_records.specs.declared.limits.TheConstants.{MOST_AREA_BITS}
 use Rattle.hc_records.specs.declared.records.Area.{Area}
@@ -22,7 +23,7 @@ pub record SyncManagerFields (area : Area) : Type 0 where
   pub activate : slice_index (sync_manager_bytes area) 6 ≡ activation (width area)
   pub pdi_control : slice_index (sync_manager_bytes area) 7 ≡ 0
 
--- so is the block of any area whose bytes can be written into it
+-- the fields of the block of any area are read as they were written, if its bytes can be written into the block
 abbrev pub SyncManagersAreRead : Type 0
 SyncManagersAreRead = (area : Area) → area.phys < 2 ^ 16 → width area ≤ MOST_AREA_BITS → SyncManagerFields area
 
@@ -37,7 +38,7 @@ pub record FmmuFields (area : Area) (mapping : Mapping) : Type 0 where
   pub kind : slice_index (mapped_bytes area mapping) 11 ≡ type_of area.dir
   pub activate : slice_index (mapped_bytes area mapping) 12 ≡ 1
 
--- so is the block of any area and mapping whose numbers fit it
+-- the fields of the block of any area and mapping are read as they were written, if their numbers fit the block
 abbrev pub FmmusAreRead : Type 0
 FmmusAreRead = (area : Area) (mapping : Mapping) → area.phys < 2 ^ 16 → IsMappable area mapping → FmmuFields area mapping
 
@@ -54,7 +55,8 @@ AreApart a b = (register : ℕ) → CoversRegister a register → ¬ (CoversRegi
 abbrev pub BlocksAreApart : Type 0
 BlocksAreApart = (line : List Member) (member : Member) → IsSlaveInside member.slave → AllPairs AreApart (slave_blocks line member)
 
--- where keys ascend, and so do ranks that have each key's, what the slaves with these ranks add is what the areas add in their order
+-- if keys ascend, and so do ranks that have each key's, the slaves with these ranks add the same number as the areas in their
+-- order
 abbrev pub AscendingKeysAreCounted : Type 0
 AscendingKeysAreCounted =
     (keys : List Key) (ranks : List ℕ) → AllPairs (λ a b. IsTrue (is_before a b)) keys → AllPairs (λ a b. a < b) ranks

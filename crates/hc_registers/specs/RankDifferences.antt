@@ -1,4 +1,5 @@
--- How two lines differ, place by place. The new one has the same declared slaves, or more after them: what left, what stayed, and what moved.
+-- The differences between two lines, place by place: the slaves that left, the blocks that stayed, and those that moved. The
+-- new line has the same declared slaves, or more after them.
 use Rattle.std.specs.Prelude.{◌≡◌, ◌≢◌, ℕ, ◌+◌, ◌-◌, ◌*◌, ◌<◌, ◌≤◌, List, All, length, slice_get, Option, Some, None}
 use Rattle.hc_registers.specs.Blocks.{LineBlock}
 use Rattle.hc_registers.specs.declared.ranked.Gone.{Gone}

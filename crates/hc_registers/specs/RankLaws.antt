@@ -1,4 +1,4 @@
--- What the places of a line hold. Each law is the contract of a function of `laws`.
+-- Laws of the places of a line. Each law is the contract of a function of `laws`.
 use Rattle.std.specs.Prelude.{◌≡◌, ℕ, ◌*◌, ◌<◌, ◌++◌, List, All, length, map, replicate, slice_get, Option, Some, None}
 use Rattle.std.specs.List.{flat_map}
 use Rattle.std.specs.Option.{option_to_list}
@@ -19,12 +19,12 @@ standing places = flat_map option_to_list places
 abbrev pub PlacesHoldTheLine : Type 0
 PlacesHoldTheLine = (state : State) → lowest_fault (groups_of state.groups) ≡ None → standing (places state) ≡ line_blocks (line state)
 
--- at the place of a slave's rank and a number is its block with that number; nothing where it has no such block
+-- the place of a slave's rank and a number has the slave's block with that number; nothing if it has no such block
 abbrev pub HasPlaces : State → Member → Type 0
 HasPlaces state member =
     (number : ℕ) → number < 16 → slice_get (places state) (place member.rank number) ≡ Some (slice_get (member_blocks (line state) member) number)
 
--- so it is with every slave of a line
+-- `HasPlaces` holds for every slave of a line
 abbrev pub MembersHavePlaces : Type 0
 MembersHavePlaces = (state : State) → All (HasPlaces state) (line state)
 

@@ -14,11 +14,11 @@ place rank number = 16 * (rank - 1) + number
 unfoldable pub numbers : List ℕ
 numbers = range_with_len 0 16
 
--- what a line has at a slave's places: its blocks where it's present
+-- the content of a slave's places in a line: its blocks if it is present
 abbrev pub slave_places : List Member → Bool → Member → List (Option LineBlock)
 slave_places line present member = map (slice_get (if present then member_blocks line member else [])) numbers
 
--- what a line has at the places of declared groups' slaves, from a rank on
+-- the content of the places of declared groups' slaves in a line, from a rank on
 abbrev pub places_from : List Member → ℕ → List Declared → List (Option LineBlock)
 places_from line rank [] = []
 places_from line rank (declared ∷ rest) =

@@ -21,6 +21,6 @@ member_ranked line member = map (ranked member.rank) (member_blocks line member)
 abbrev pub ranked_blocks : List Member → List RankedBlock
 ranked_blocks line = flat_map (member_ranked line) line
 
--- the blocks of the new line that weren't blocks of the old one (`moved_blocks`), each with its slave's rank
+-- the blocks of the new line that were not blocks of the old one (`moved_blocks`), each with its slave's rank
 abbrev pub moved_ranked : List Member → List Member → List RankedBlock
 moved_ranked old new = filter (λ block. not (list_any (same_block block.found) (line_blocks old))) (ranked_blocks new)

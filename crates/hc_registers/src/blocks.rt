@@ -1,4 +1,4 @@
-//! Blocks as they are written: bytes at a register.
+//! `Block` and `LineBlock`: blocks as they are written, bytes at a register.
 ghost use Rattle.std.specs.Prelude.{◌≡◌, ◌+◌, ◌*◌, ◌<◌, ◌≤◌, take};
 ghost use Rattle.std.specs.Option.{ForSome};
 ghost use Rattle.hc_records.specs.Area.{width};
@@ -13,7 +13,7 @@ use crate::sync_manager::sized_block;
 use hc_records::records::Area;
 use std::marker::Model;
 
-/// The bytes of a sync manager or FMMU block, and the register where they begin.
+/// The bytes of a sync manager or FMMU block, and the register at which they begin.
 #[derive(Clone, Debug, Drop)]
 pub struct Block {
     register: u16,
@@ -95,8 +95,7 @@ impl Block {
         }
     }
 
-    /// The FMMU block of the area that is at an index of its slave's record, 16 bytes. An area of 0
-    /// bits isn't mapped.
+    /// Returns the FMMU block of the area at an index of its slave's record, 16 bytes. An area of 0 bits is not mapped.
     pub fn fmmu(index: u8, area: &Area, mapping: Option<Mapping>) -> Block
         requires index { index < MOST_AREAS }
         requires mapping { ForSome mapping (IsMappable area.now) }
@@ -126,7 +125,7 @@ impl Block {
         }
     }
 
-    /// The register where the block begins.
+    /// Returns the register at which the block begins.
     pub fn register(&self) -> u16
         ensures { result ≡ self.now.register }
     {

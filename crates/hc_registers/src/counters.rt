@@ -9,14 +9,14 @@ ghost use Rattle.hc_registers.specs.Counting.{added_share, weight};
 use hc_records::keys::Key;
 use hc_records::records::Dir;
 
-/// Whether a slave has an area of a direction among those of a datagram.
+/// True if a slave has an area of a direction among those of a datagram.
 fn has_area(keys: &[Key], rank: u16, dir: Dir) -> bool
     ensures { result ≡ list_any (area_is_of rank dir) keys.now }
 {
     keys.iter().any(|key| key.rank == rank && key.dir == dir)
 }
 
-/// What a slave adds: 2 for its outputs and 1 for its inputs, however many of them there are.
+/// Returns the number, 0 to 3, that a slave adds: 2 for its outputs and 1 for its inputs, however many of them there are.
 fn share(keys: &[Key], rank: u16) -> u16
     ensures value { result ≡ counter_share keys.now rank }
     ensures low { result ≤ 3 }
@@ -26,9 +26,8 @@ fn share(keys: &[Key], rank: u16) -> u16
     writes + reads
 }
 
-/// The expected working counter of a datagram whose areas have these keys, over a line whose slaves
-/// have these ranks, at most 2,048 of them: for each slave 2 where an output area of it lies in the
-/// datagram, and 1 where an input area does.
+/// Returns the expected working counter of a datagram whose areas have these keys, over a line whose slaves have these ranks,
+/// at most 2,048 of them. Each slave adds 2 if an output area of it lies in the datagram, and 1 if an input area does.
 pub fn expected_count(keys: &[Key], ranks: &[u16]) -> u16
     requires { length ranks.now ≤ MOST_SLAVES }
     ensures { result ≡ sum_by (counter_share keys.now) ranks.now }
@@ -40,7 +39,7 @@ pub fn expected_count(keys: &[Key], ranks: &[u16]) -> u16
     total
 }
 
-/// What an area of a direction adds to the working counter: 2 for outputs, 1 for inputs.
+/// Returns the number that an area of a direction adds to the working counter: 2 for outputs, 1 for inputs.
 fn weight(dir: Dir) -> u16
     ensures value { result ≡ weight dir }
     ensures low { result ≤ 2 }
@@ -51,10 +50,9 @@ fn weight(dir: Dir) -> u16
     }
 }
 
-/// What the area with a key adds to the working counter of its datagram after the area before it, if
-/// there is one: 2 for outputs and 1 for inputs, and 0 where both areas are of one slave and
-/// direction. A pass over a datagram's areas, whose keys ascend, that adds this from 0 ends with the
-/// datagram's expected counter, as `expected_count` gives it.
+/// Returns the number that the area with a key adds to the working counter of its datagram, after the area before it if there
+/// is one. It is 2 for outputs and 1 for inputs, and 0 if both areas are of one slave and direction. The sum of these numbers
+/// over a datagram's areas, whose keys ascend, is the datagram's expected counter, as `expected_count` returns it.
 pub fn added_count(before: Option<Key>, key: Key) -> u16
     ensures value { result ≡ added_share before key }
     ensures low { result ≤ 2 }

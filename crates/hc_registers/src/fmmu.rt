@@ -1,5 +1,4 @@
-//! The FMMU block of an area: which logical bits of a datagram are which bits of the slave's memory
-//! (ETG.1000.4, 6.6).
+//! The FMMU block of an area: the mapping of logical bits of a datagram to bits of the slave's memory (ETG.1000.4, 6.6).
 ghost use Rattle.std.specs.Prelude.{◌≡◌, slice_index};
 ghost use Rattle.std.specs.Option.{ForSome};
 ghost use Rattle.hc_records.specs.Area.{width};
@@ -18,14 +17,14 @@ const TASK_SPAN: u32 = 0x0100_0000;
 /// profile).
 const DATAGRAM_SPAN: u32 = 2048;
 
-/// The logical address where a datagram of a task begins.
+/// Returns the logical address at which a datagram of a task begins.
 pub fn logical_address(task: Task, datagram: u16) -> u32
     ensures { result ≡ logical_address task datagram }
 {
     TASK_SPAN * (u32::from(task.number()) + 1) + DATAGRAM_SPAN * u32::from(datagram)
 }
 
-/// Where an area begins.
+/// The place at which an area begins.
 #[derive(Clone, Copy, Debug, PartialEq, Eq)]
 pub struct Mapping {
     /// The logical address of its datagram.
@@ -75,9 +74,8 @@ pub(crate) fn mapped_block(area: &Area, bits: u16, mapping: Mapping) -> [u8; 16]
     ]
 }
 
-/// The block of an area: logical start address, length in bytes from the first to the last that it
-/// touches, logical start and stop bit, physical start address and bit, type and activation. An
-/// area that isn't mapped has a block of zeros.
+/// Returns the block of an area: logical start address, length in bytes from the first to the last that it touches, logical
+/// start and stop bit, physical start address and bit, type and activation. An area that is not mapped has a block of zeros.
 pub fn fmmu_block(area: &Area, mapping: Option<Mapping>) -> [u8; 16]
     requires { ForSome mapping (IsMappable area.now) }
     ensures { result ≡ fmmu_bytes area.now mapping }

@@ -1,5 +1,5 @@
-//! What follows from the definitions of the blocks and of the working counter: each function does
-//! nothing, and its contract is a law. Nobody calls it.
+//! Laws that follow from the definitions of the blocks and of the working counter. Each function does nothing, and its contract
+//! is a law. Nobody calls it.
 ghost use Rattle.hc_registers.specs.Laws.{AscendingKeysAreCounted, BlocksAreApart, FmmusAreRead, SyncManagersAreRead};
 
 /// The fields of an area's sync manager block are read as they were written: its start address, its
@@ -19,9 +19,9 @@ pub fn blocks_are_apart()
     ensures { BlocksAreApart }
 {}
 
-/// Where keys ascend strictly, and so do ranks among which each key's is, the counter by slaves (for
-/// each rank 2 for its outputs and 1 for its inputs) is what the areas add one after another: 2 or 1,
-/// and nothing after an area of the same slave and direction.
+/// The expected working counter of a datagram is counted in one pass over its areas, if their keys ascend strictly, and so do
+/// ranks among which each key's is. The counter by slaves has 2 for the outputs and 1 for the inputs of each rank. It is the
+/// sum over the areas one after another: 2 or 1, and 0 after an area of the same slave and direction.
 pub fn ascending_keys_are_counted()
     ensures { AscendingKeysAreCounted }
 {}

@@ -1,6 +1,6 @@
-//! What the registers of a line's slaves are to hold: sync manager and FMMU blocks, and the working counter that a
-//! datagram is expected to come back with. `ranked` compares the blocks of two lines place by place. The plan asks
-//! for blocks, the slave machine reads their fields.
+//! The contents that the registers of a line's slaves are to hold: sync manager and FMMU blocks; and the working counter that a
+//! datagram is expected to come back with. `ranked` has the blocks by the rank of their slaves. The plan asks for blocks, and
+//! the slave machine reads their fields.
 #![tactic(auto)]
 
 pub mod blocks;

@@ -1,5 +1,4 @@
-//! What follows from the definitions, so that a reader can trust them: each function here does nothing, and
-//! its contract is a law. Nobody calls it.
+//! Laws that follow from the definitions. Each function here does nothing, and its contract is a law. Nobody calls it.
 ghost use Rattle.hc_registers.specs.RankLaws.{DeclaredGroupsAddEmptyPlaces, MembersHavePlaces, PlacesHoldTheLine, RankedAreMoved};
 
 /// The blocks at the places of a project's line are the line's blocks, in line and block order.

@@ -1,4 +1,4 @@
-//! What is given by rank of the blocks of a line and of the slaves that leave it.
+//! `RankedBlock` and `Gone`: the blocks of a line, and the slaves that leave it, by rank.
 ghost use Rattle.std.specs.Prelude.{◌≡◌, ◌≤◌};
 ghost use Rattle.hc_registers.specs.RankPlaces.{place};
 
@@ -35,7 +35,7 @@ impl Model for RankedBlock {
 pub struct Gone {
     /// The rank of the first of them, from 1.
     pub rank: u16,
-    /// How many they are; 0 where none leaves.
+    /// The number of these slaves; 0 if none leaves.
     pub slaves: u16,
 }
 

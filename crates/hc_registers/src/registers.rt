@@ -1,4 +1,4 @@
-//! Where the register blocks are (ETG.1000.4, 6.6 and 6.7).
+//! The registers of the FMMU and sync manager blocks (ETG.1000.4, 6.6 and 6.7).
 
 /// The register of a slave's first FMMU block.
 pub const FMMU_BLOCKS: u16 = 0x0600;

@@ -1,4 +1,4 @@
--- What goes into a ring of posts and what comes out of it.
+-- The two ends of a ring of posts: the posts that went in, and those that came out.
 use Rattle.std.specs.Prelude.{List}
 use Rattle.rtrb.specs.Ring.{sent, received, known_items}
 use Rattle.hc_rings.specs.Post.{Post}

@@ -1,4 +1,4 @@
--- What contracts see of the end that a sender leaves as it finishes.
+-- The model of the end that a sender leaves as it finishes.
 use Rattle.std.specs.Prelude.{List}
 use Rattle.rtrb.specs.Ring.{all_sent, IsFinishedOf}
 use Rattle.hc_rings.specs.Post.{Post}

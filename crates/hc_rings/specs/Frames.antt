@@ -1,4 +1,4 @@
--- What contracts see of the two ends of a ring of frames. A frame is the list of its bytes.
+-- The model of the two ends of a ring of frames. A frame is the list of its bytes.
 use Rattle.std.specs.Prelude.{ℕ, List}
 use Rattle.rtrb.specs.Ring.{sent, received, known_items, producer_capacity, IsPair, SameProducer, SameConsumer}
 use Rattle.hc_rings.specs.declared.frames.FrameSender.{FrameSender}
@@ -8,7 +8,7 @@ use Rattle.hc_rings.specs.declared.frames.FrameReceiver.{FrameReceiver}
 abbrev pub frames_sent : FrameSender → List (List ℕ)
 frames_sent s = sent s.ring
 
--- for how many frames the ring has room
+-- the number of frames that the ring has room for
 abbrev pub frame_room : FrameSender → ℕ
 frame_room s = producer_capacity s.ring
 
@@ -24,7 +24,7 @@ frames_left r = known_items r.ring
 abbrev pub AreFrameEnds : FrameSender → FrameReceiver → Type 0
 AreFrameEnds s r = IsPair s.ring r.ring
 
--- the same end of the same ring
+-- two senders are one end of one ring
 abbrev pub SameFrameSender : FrameSender → FrameSender → Type 0
 SameFrameSender old new = SameProducer old.ring new.ring
 

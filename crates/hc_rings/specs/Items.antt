@@ -1,4 +1,4 @@
--- What goes through a ring of posts: posts, and after the last of them the end.
+-- The items of a ring of posts: posts, and after the last of them the end.
 use Rattle.std.specs.Prelude.{◌≡◌, ◌-◌, Bool, true, false, List, [], ◌∷◌, ◌++◌, length, map, take}
 use Rattle.hc_rings.specs.Post.{Post}
 use Rattle.hc_rings.specs.declared.item.Item.{Item}

@@ -1,10 +1,10 @@
--- What follows from the definitions.
+-- Laws that follow from the definitions.
 use Rattle.std.specs.Prelude.{◌≡◌, ℕ, List, ◌++◌, length}
 use Rattle.hc_rings.specs.Post.{Post, overwritten}
 use Rattle.hc_rings.specs.Ring.{taken, left, EndCameAfter}
 use Rattle.hc_rings.specs.declared.posts.PostReceiver.{PostReceiver}
 
--- where the end came after some posts, what was taken, followed by what is left, is these posts
+-- if the end came after some posts, those that were taken, followed by those that are left, are these posts
 abbrev pub TakenThenLeftIsPosted : Type 0
 TakenThenLeftIsPosted = (r : PostReceiver) (posts : List Post) → EndCameAfter r posts → taken r ++ left r ≡ posts
 

@@ -1,4 +1,4 @@
--- What a lender ends as, once the loan of a buffer or of bytes is over.
+-- The final state of a lender, once the loan of a buffer or of bytes is over.
 use Rattle.std.specs.Prelude.{ℕ, List, Option, Some, Result}
 use Rattle.std.specs.Option.{option_map}
 use Rattle.std.specs.Borrow.{Lends, LendsSoOk, MutBor, Fml, Array, u8}
@@ -35,7 +35,7 @@ held_written s written = record s { held = option_map (λ post. post_with_writte
 abbrev pub LendsHeld : MutBor PostSender → MutBor (List ℕ) → Fml
 LendsHeld s lent = Lends sender.the_row (Array u8 0) s lent (held_written s.now)
 
--- the sender, which holds a post for this epoch with what was left written over `size` zeros; or, where none was held and
+-- the sender, which holds a post for this epoch with the bytes that were left written over `size` zeros. If none was held and
 -- no spare was found, it is as it was before
 abbrev pub LendsOutputs : MutBor PostSender → ℕ → ℕ → Result (MutBor (List ℕ)) NoSpare → Fml
 LendsOutputs s epoch size lent = LendsSoOk sender.the_row (Array u8 0) s lent (λ n written. HoldsPost s.now n (post_with_written (blank_post epoch size) written)) (HoldsNothing s.now)

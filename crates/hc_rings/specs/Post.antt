@@ -1,4 +1,4 @@
--- What contracts see of the buffer of a post.
+-- The model of the buffer of a post.
 use Rattle.std.specs.Prelude.{ℕ, List, ◌++◌, length, take, drop, replicate, Option, Some, None}
 
 -- the epoch that a post is for, and its output bytes
@@ -22,7 +22,7 @@ overwritten bytes written = take (length bytes) (written ++ drop (length written
 abbrev pub post_with_written : Post → List ℕ → Post
 post_with_written post written = record { epoch = post.epoch; bytes = overwritten post.bytes written }
 
--- how many posts an option is: one or none
+-- the number of posts of an option: one or none
 abbrev pub post_count : Option Post → ℕ
 post_count None = 0
 post_count (Some post) = 1

@@ -1,4 +1,4 @@
--- What contracts see of the two ends of a ring of posts: what was posted, what was taken, and what is left.
+-- The model of the two ends of a ring of posts: the posts that were posted, those that were taken, and those that are left.
 use Rattle.std.specs.Prelude.{◌≡◌, ◌+◌, ◌-◌, ◌⊎◌, ℕ, List, ◌++◌, length, true, Option, Some, None}
 use Rattle.rtrb.specs.Ring.{sent, received, known_free, known_items, IsPair, SameProducer, SameConsumer}
 use Rattle.hc_rings.specs.Post.{Post, post_count}
@@ -12,15 +12,15 @@ use Rattle.hc_rings.specs.declared.posts.PostReceiver.{PostReceiver}
 abbrev pub posted : PostSender → List Post
 posted s = put_in s.posts
 
--- how many posts the sender knows a place for, with the place of the end that it leaves
+-- the number of posts that the sender knows a place for, with the place of the end that it leaves
 abbrev pub known_places : PostSender → ℕ
 known_places s = known_free s.posts.ring
 
--- how many spare buffers it knows of
+-- the number of spare buffers that the sender knows of
 abbrev pub known_spares : PostSender → ℕ
 known_spares s = length (known_items s.spares.ring)
 
--- how many buffers were handed out to be filled
+-- the number of buffers that were handed out to be filled
 abbrev pub handed_out : PostSender → ℕ
 handed_out s = length (received s.spares.ring)
 
@@ -36,11 +36,12 @@ HoldsThisPost old new post = (held new ≡ Some post) × (handed_out new + post_
 abbrev pub PostsEach : PostSender → Type 0
 PostsEach s = handed_out s ≡ length (posted s) + post_count (held s)
 
--- how many of its buffers the sender has seen come back: those that were handed out or are spare, but for the four of the opening
+-- the number of its buffers that the sender has seen come back: those that were handed out or are spare, without the four of
+-- the opening
 abbrev pub seen_back : PostSender → ℕ
 seen_back s = (handed_out s + known_spares s) - SPARE_BUFFERS
 
--- how many of its posts it has seen taken out of the ring: each leaves a place
+-- the number of its posts that the sender has seen taken out of the ring: each leaves a place
 abbrev pub seen_taken : PostSender → ℕ
 seen_taken s = (known_places s + length (posted s)) - (POSTS_WAITING + 1)
 
@@ -68,11 +69,11 @@ ArePostEnds s r = IsPair s.posts.ring r.posts.ring × IsPair r.spares s.spares.r
 abbrev pub given_back : PostReceiver → List Post
 given_back r = sent r.spares
 
--- for how many buffers that are given back the receiver knows a place
+-- the number of buffers to give back that the receiver knows a place for
 abbrev pub spare_places : PostReceiver → ℕ
 spare_places r = known_free r.spares
 
--- the same end of the same two rings
+-- two senders are one end of the same two rings
 abbrev pub SameSender : PostSender → PostSender → Type 0
 SameSender old new = SameProducer old.posts.ring new.posts.ring × SameConsumer old.spares.ring new.spares.ring
 

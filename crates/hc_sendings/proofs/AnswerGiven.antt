@@ -1,4 +1,4 @@
--- What an arrival is answered, by what is awaited with its serial.
+-- The answer to an arrival, by the frame or write that is awaited with its serial.
 use Rattle.std.proofs.Common.{◌≡◌, ℕ, ◌==◌, Bool, true, false, cond, ◌||◌, ◌&&◌, List, [], ◌∷◌, length, map, refl, sym, ap, ◌∙◌, subst, Option, Some, None}
 use Rattle.std.specs.Prelude.{All, find, option_map}
 use Rattle.std.specs.List.{list_any, zip}
@@ -164,7 +164,7 @@ none-found : (found : Option AwaitedWrite) → option_map (λ (write : AwaitedWr
 none-found None none = refl
 none-found (Some write) none = cc
 
--- where no blocks are found, no write is
+-- if no blocks are found, no write is
 pub no-blocks : (serial : ℕ) (waiting : Waiting) → option_map (λ (write : AwaitedWrite). write.blocks) (found_write serial waiting) ≡ None → found_write serial waiting ≡ None
 no-blocks serial waiting none = none-found (found_write serial waiting) none
 
@@ -183,6 +183,6 @@ found-holds P serial (one ∷ frames) frame all e =
     same : (a b : AwaitedFrame) → Some a ≡ Some b → a ≡ b
     same a b e = cc
 
--- so its datagrams are the line's
+-- the datagrams of the frame that is found are the line's
 pub found-is_placed : (line : List Member) (last_sent : LastSent) (frame : StoredFrame) → All (λ (carried : AwaitedDatagram). IsInLine line carried.datagram) (frame_by last_sent frame).datagrams → All (IsInLine line) frame.datagrams
 found-is_placed line last_sent frame all = All-unmap (λ (carried : AwaitedDatagram). IsInLine line carried.datagram) (awaited_datagram last_sent frame.serial) frame.datagrams all

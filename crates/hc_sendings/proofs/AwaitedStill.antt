@@ -66,7 +66,7 @@ pub awaited_still-same : (a b : Table) → ((named : Named) → IsTaskDatagram n
 awaited_still-same a b same frames named =
     ap (filter is_still_awaited) (map-all (λ (frame : StoredFrame). All IsTaskDatagram frame.datagrams) (answered_at a) (answered_at b) (answer_given-same a b same) frames named)
 
--- a frame is awaited where it is the newest of one of its datagrams
+-- a frame is awaited if it is the newest of one of its datagrams
 pub any-answer_given : (at : Table) (serial : ℕ) (datagrams : List Named)
     → list_any (λ named. is_serial serial (at named)) datagrams ≡ is_still_awaited (record { serial = serial; datagrams = map (λ named. record { datagram = named; last_sent = is_serial serial (at named) }) datagrams })
 any-answer_given at serial [] = refl

@@ -124,7 +124,7 @@ stored-ended last_sent serial frames next (inr is) are =
       named = All-filter other HasNames frames are.named;
     })
 
--- the one frame with the serial is where the serials reach it
+-- the one frame with the serial is at the place at which the serials reach it
 
 is-after_it : (a b : ℕ) → nat_lt a b ≡ false → a ≢ b → b < a
 is-after_it a b t e = grind (arith, nat_tests)

@@ -1,4 +1,4 @@
--- The frame with a serial, where serials ascend.
+-- The frame with a serial, if serials ascend.
 use Rattle.std.proofs.Common.{◌≡◌, ℕ, ◌<◌, ◌≤◌, ◌==◌, Bool, true, false, cond, ◌&&◌, List, [], ◌∷◌, get_or, refl, sym, ap, ◌∙◌, arith, Option, Some, None, ltb-true, ne_eqb}
 use Rattle.std.specs.Prelude.{AllPairs, find, nat_lt, option_and_then, option_map, slice_get}
 use Rattle.std.specs.List.Sorted.{IsPartitionedBy, IsPartitionPoint}
@@ -55,7 +55,7 @@ sought-found at serial [] = refl
 sought-found at serial (frame ∷ frames) =
     found-either at serial frame (awaited_at at frames) (find (is_sought at serial) frames) (is_still_awaited (answered_at at frame)) (frame.serial == serial) refl refl (sought-found at serial frames)
 
--- it is the one at the place where the serial is reached, or there is none
+-- the frame with a serial is the one at the place at which the serials reach it, or there is none
 pub found-at : (at : Table) (serial : ℕ) (frames : List StoredFrame) (place : ℕ) (reached : Option StoredFrame) → AllPairs (λ a b. a.serial < b.serial) frames
     → IsPartitionPoint (λ (frame : StoredFrame). nat_lt frame.serial serial ≡ true) (λ (frame : StoredFrame). nat_lt frame.serial serial ≡ false) frames place
     → slice_get frames place ≡ reached

@@ -215,7 +215,7 @@ added-up bytes serial size names none head all text is_none is_head is_all is_te
     ∙ append_assoc (frame_head serial size) own (padding size)
     ∙ ap (λ (n : ℕ). frame_head serial n ++ (own ++ padding n)) (same ∙ sym (text_length bytes serial names))
 
--- what is added to a text, where there is room
+-- the bytes that are added to a text, if there is room
 pub added : {A : Type 0} {E : Type 0} (result : Result A E) (new old more other : List ℕ) → new ≡ (if is_ok result then old ++ more else old) → more ≡ other
     → OnOk result (new ≡ old ++ other)
 added (Ok x) new old more other is same = is ∙ ap (λ text. old ++ text) same

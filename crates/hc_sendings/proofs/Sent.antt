@@ -17,7 +17,7 @@ use Rattle.hc_sendings.specs.Stored.{AreStored, StoredFrame, LastSent, is_serial
 use Rattle.hc_sendings.proofs.Room.{few-stay}
 use Rattle.hc_sendings.proofs.AwaitedStill.{Table, awaited_still-same, awaited_still-stays, awaited_at, filter-map_is, map-all, stays_at, answered_at}
 
--- a table where a frame is the newest of its datagrams
+-- a table in which a frame is the newest of its datagrams
 abbrev noted_at : Frame → Table → Table
 noted_at frame at = λ named. cond (list_any (is_named named) frame.datagrams) (Some frame.serial) (at named)
 
@@ -251,7 +251,7 @@ joined-answer_given before now stored first second frames writes further forgott
     ∙ sent-all frames (last_sent_of before) first writes further forgotten ascend after_it
     ∙ ap (λ (all : List AwaitedFrame). all_sent (record { frames = all; writes = writes; further = further; forgotten = forgotten }) frames) one.answer_given
 
--- there is room for them: for all that come, or where those that are left are the newest of a datagram each
+-- there is room for the frames that come: for all of them, or if those that are left are the newest of a datagram each
 pub joined-few : (now : LastSent) (first second : List StoredFrame) (frames : List Frame) (room count : ℕ)
     → (second ≡ filter (stays_at (last_sent_of now)) first) ⊎ ((second ≡ first) × (count + length frames ≤ room)) → count ≡ length first
     → AllPairs Ascend first → All (After frames) first → AllPairs (λ a b. a.serial < b.serial) frames → length now ≤ room

@@ -10,15 +10,15 @@ framed_from line serial (Some frame) datagrams = framed_after line frame datagra
 
 -- frames; the last is open, if there is one
 
--- those before it
+-- the closed frames: all but the last one
 abbrev pub closed : List Frame → List Frame
 closed frames = take (length frames - 1) frames
 
--- and itself
+-- the open frame: the last one
 abbrev pub open_in : List Frame → Option Frame
 open_in frames = slice_get frames (length frames - 1)
 
--- the open frame is done where a datagram with so many bytes of data has no room in it
+-- the open frame is done if a datagram with so many bytes of data has no room in it
 abbrev pub done_by : Option Frame → ℕ → List Frame
 done_by None length = []
 done_by (Some frame) length = if has_room frame.bytes length then [] else frame ∷ []
@@ -29,7 +29,7 @@ last_with serial None datagram length = frame_of_one serial datagram length
 last_with serial (Some frame) datagram length =
     if has_room frame.bytes length then frame_joined frame datagram length else frame_of_one (frame.serial + 1) datagram length
 
--- all frames where these datagrams come next
+-- all frames once these datagrams are added
 abbrev pub all_framed : List Member → ℕ → List Frame → List Named → List Frame
 all_framed line serial frames rest = closed frames ++ framed_from line serial (open_in frames) rest
 

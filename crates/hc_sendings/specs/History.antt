@@ -1,4 +1,4 @@
--- What the events' record awaits, and what keeps it.
+-- The sendings that the events' record awaits, and the state that stores them.
 use Rattle.std.specs.Prelude.{◌≡◌, ◌≢◌, ℕ, ◌<◌, not, Bool, true, false, All, AllPairs, List, [], ◌∷◌, map, option_map, Option}
 use Rattle.hc_events.specs.Entries.{HistoryEntry, History, Opened, Edited, Wrote, Forgot}
 use Rattle.hc_events.specs.Points.{line_of, next_serial}
@@ -9,15 +9,15 @@ use Rattle.hc_events.specs.Accepted.{carries_first}
 use Rattle.hc_sendings.specs.Waiting.{AllAreInLine, Waiting, all_writes}
 use Rattle.hc_sendings.specs.Judging.{Due, due_with}
 
--- what is due to come back of what the record awaits with a serial
+-- the due datagram of a sending: its head, and whether it is the newest, by the entries since
 abbrev pub due_in : List HistoryEntry → Head → Due
 due_in since head = record { head = head; last_sent = not (is_outdated head.item since) }
 
--- what is due of a sending: each of its datagrams, newest where it isn't out of date
+-- the due datagrams of a sending: each is the newest if it is not out of date
 abbrev pub dues_of : Sending → List Due
 dues_of sending = map (due_in sending.since) sending.heads
 
--- what is due to come back with a serial, by the record: the awaited sending's with this serial, if there is one
+-- the due datagrams with a serial, by the record: those of the awaited sending with this serial, if there is one
 abbrev pub due_by : History → ℕ → Option (List Due)
 due_by history serial = option_map dues_of (awaited history serial)
 
@@ -30,8 +30,9 @@ was_forgotten (Wrote blocks ∷ history) = false
 was_forgotten (Forgot station ∷ history) = true
 was_forgotten (entry ∷ history) = was_forgotten history
 
--- the same is due with each serial; the frames are of the line, and frames and writes have serials that ascend and were given; no two have the same; and those writes carry the first owed blocks that
--- aren't kept as further ones
+-- the stored frames and writes are those that the record awaits: the same datagrams are due with each serial. The frames are of
+-- the line. Frames and writes have serials that were given; those of the frames ascend, and no two are the same. The writes
+-- that are not stored as further ones ascend too, and carry the first owed blocks
 pub record KeepsAwaited (history : History) (waiting : Waiting) : Type 0 where
   pub due : (serial : ℕ) → due_with (line_of history) waiting serial ≡ due_by history serial
   pub ascend : AllPairs (λ a b. a.serial < b.serial) waiting.frames

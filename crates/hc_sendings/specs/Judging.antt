@@ -1,4 +1,5 @@
--- What an arrival is for what is awaited with its serial: compared datagram for datagram with what was sent, and judged by the working counter (ETG.1000.4, 5.4; this project's profile).
+-- The judgement of an arrival by the frame or write that is awaited with its serial: it is compared datagram for datagram with
+-- the sending, and judged by the working counter (ETG.1000.4, 5.4; this project's profile).
 use Rattle.std.specs.Prelude.{ℕ, ◌==◌, Bool, if◌then◌else◌, List, [], find, map, Option, option_map}
 use Rattle.std.specs.Option.{option_map_or, option_or}
 use Rattle.std.specs.List.{zip}
@@ -11,20 +12,21 @@ use Rattle.hc_events.specs.Answering.{Judged, Verdict, Good, Wrong, Stale, has_h
 use Rattle.hc_sendings.specs.declared.writes.AwaitedBlock.{AwaitedBlock}
 use Rattle.hc_sendings.specs.Waiting.{AwaitedFrame, AwaitedWrite, AwaitedDatagram, Waiting, all_writes}
 
--- what is due to come back of a datagram or a register block: what the sending said of it, and whether it wasn't sent again since
+-- a due datagram, of a task or of a register block: its head in the sending, and whether it was not sent again since
 pub record Due : Type 0 where
   pub head : Head
   pub last_sent : Bool
 
--- of a frame: what the line says of its datagrams
+-- the due datagram of a frame, with its head in the line
 abbrev pub due_of : List Member → AwaitedDatagram → Due
 due_of line carried = record { head = data_head line carried.datagram; last_sent = carried.last_sent }
 
--- what is due of an awaited frame, datagram by datagram: the head that each has in the line, and whether this is the newest frame that it was sent in
+-- the due datagrams of an awaited frame, each with its head in the line, and whether this is the newest frame that it was sent
+-- in
 abbrev pub frame_due : List Member → AwaitedFrame → List Due
 frame_due line frame = map (due_of line) frame.datagrams
 
--- of a register block: a write of it, by one slave
+-- the head of a register block's datagram: a write of it, by one slave
 abbrev pub written_head : AwaitedBlock → Head
 written_head block = record {
   item = Block block.station block.number;
@@ -34,19 +36,19 @@ written_head block = record {
   expected = WRITE_COUNT;
 }
 
--- what is due of a block of an awaited write
+-- the due datagram of a block of an awaited write
 abbrev pub block_due : AwaitedBlock → Due
 block_due block = record { head = written_head block; last_sent = block.last_sent }
 
--- what is due of an awaited register write, block by block
+-- the due datagrams of an awaited register write, block by block
 abbrev pub write_due : AwaitedWrite → List Due
 write_due write = map block_due write.blocks
 
--- what is awaited with a serial: a write, or a frame
+-- the awaited write with a serial, if there is one
 abbrev pub found_write : ℕ → Waiting → Option AwaitedWrite
 found_write serial waiting = find (λ write. write.serial == serial) (all_writes waiting)
 
--- the blocks of the awaited write with a serial, in its order; none where no such write is awaited
+-- the blocks of the awaited write with a serial, in its order; none if no such write is awaited
 abbrev pub blocks_with : ℕ → Waiting → List AwaitedBlock
 blocks_with serial waiting = option_map_or (λ write. write.blocks) (found_write serial waiting) []
 
@@ -54,24 +56,25 @@ blocks_with serial waiting = option_map_or (λ write. write.blocks) (found_write
 abbrev pub found_frame : ℕ → Waiting → Option AwaitedFrame
 found_frame serial waiting = find (λ frame. frame.serial == serial) waiting.frames
 
--- what is due to come back with a serial: the one of the write with this serial, else the frame's; none where neither is awaited
+-- the due datagrams with a serial: those of the write with this serial, otherwise those of the frame; none if neither is
+-- awaited
 abbrev pub due_with : List Member → Waiting → ℕ → Option (List Due)
 due_with line waiting serial =
     option_or (option_map write_due (found_write serial waiting)) (option_map (frame_due line) (found_frame serial waiting))
 
--- a datagram that came back: stale where it was sent again, else good or wrong by its working counter
+-- the verdict on a datagram that came back: stale if it was sent again, otherwise good or wrong by its working counter
 abbrev pub verdict_of : Due → Part → Verdict
 verdict_of due part = if due.last_sent then (if part.counter == due.head.expected then Good else Wrong) else Stale
 
--- a datagram that is due, with what came back of it and the verdict on that
+-- a due datagram, with the part that came back and the verdict on it
 abbrev pub judge_due : Due × Part → Judged
 judge_due pair = record { head = pair.0.head; part = pair.1; verdict = verdict_of pair.0 pair.1 }
 
--- where all came back, each with its command, address and length, each is judged; else nothing is
+-- the judged datagrams of an arrival, if all came back, each with its command, address and length; otherwise none
 abbrev pub judged_due : Arrival → List Due → List Judged
 judged_due arrival due =
     if has_heads (map (λ one. one.head) due) arrival.parts then map judge_due (zip due arrival.parts) else []
 
--- the datagrams of what an arrival answers; none where it answers nothing
+-- the judged datagrams of the sending that an arrival answers; none if it answers nothing
 abbrev pub judged_in : List Member → Waiting → Arrival → List Judged
 judged_in line waiting arrival = option_map_or (judged_due arrival) (due_with line waiting arrival.serial) []

@@ -8,11 +8,11 @@ use Rattle.hc_events.specs.Sendings.{Frame, Named}
 use Rattle.hc_sendings.specs.Parts.{if_of}
 use Rattle.hc_sendings.specs.Texts.{Data, datagram_with_data, carried_bytes}
 
--- a text where it belongs to the task, else none
+-- a text if it belongs to the task, otherwise none
 abbrev pub text_if : ℕ → ℕ → List ℕ → List ℕ
 text_if task own text = if own == task then text else []
 
--- a text where it belongs to the task of this datagram; nothing where it doesn't, or there is no datagram
+-- a text if it belongs to the task of this datagram; none if it does not, or if there is no datagram
 abbrev pub share_text : ℕ → List ℕ → Option Named → List ℕ
 share_text task text datagram = option_map_or (λ named. text_if task named.0 text) datagram []
 
@@ -32,7 +32,7 @@ frame_part_text bytes task frame =
     ++ share_text task (padding (carried_bytes bytes frame.datagrams))
     (slice_get frame.datagrams (length frame.datagrams - 1))
 
--- the part of a task in frames; nothing where it has none
+-- the part of a task in frames; nothing if it has none
 abbrev pub part_text : Data → ℕ → List Frame → List ℕ
 part_text bytes task frames = flat_map (frame_part_text bytes task) frames
 

@@ -5,11 +5,11 @@ use Rattle.hc_records.specs.Line.{Member}
 use Rattle.hc_frames.specs.declared.limits.TheConstants.{LEAST_FRAME}
 use Rattle.hc_events.specs.Sendings.{Frame, Named, line_data_length}
 
--- of so many bytes all where they belong to a datagram of the task, else none
+-- a number of bytes if they belong to a datagram of the task, otherwise 0
 abbrev pub if_of : ℕ → ℕ → Named → ℕ
 if_of task bytes named = if named.0 == task then bytes else 0
 
--- of so many bytes all where this datagram is one of the task's, else none; none where there is no datagram
+-- a number of bytes if this datagram is one of the task's, otherwise 0; 0 if there is no datagram
 abbrev pub share : ℕ → ℕ → Option Named → ℕ
 share task bytes datagram = option_map_or (if_of task bytes) datagram 0
 
@@ -17,7 +17,7 @@ share task bytes datagram = option_map_or (if_of task bytes) datagram 0
 abbrev pub own_bytes : List Member → Named → ℕ
 own_bytes line named = 12 + line_data_length line named
 
--- the bytes of a datagram with its header and its counter where it is one of the task's, else none
+-- the bytes of a datagram with its header and its counter if it is one of the task's, otherwise 0
 abbrev pub own_share : List Member → ℕ → Named → ℕ
 own_share line task named = if_of task (own_bytes line named) named
 

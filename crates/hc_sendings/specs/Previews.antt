@@ -5,7 +5,8 @@ use Rattle.hc_records.specs.Image.{datagram_count, task_places}
 use Rattle.hc_events.specs.Sendings.{Frame, frame_of_one, line_data_length}
 use Rattle.hc_events.specs.Steps.{serials_left}
 
--- as it would be sent next, whether or not blocks are owed; none where the task has no such datagram or no serial is left
+-- the frame of one datagram as it would be sent next, even if blocks are owed; none if the task has no such datagram or no
+-- serial is left
 abbrev pub preview_in : List Member → ℕ → ℕ → ℕ → Option Frame
 preview_in line serial task d =
     if nat_lt d (datagram_count (task_places task line)) && serials_left serial 1

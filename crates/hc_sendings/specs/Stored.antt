@@ -1,4 +1,5 @@
--- How awaited frames are kept: with a table that has, for each datagram, the serial of the newest frame that it was sent in. Contracts inside the crate cite it.
+-- The storage of awaited frames: with a table that has, for each datagram, the serial of the newest frame that it was sent in.
+-- Contracts inside the crate cite it.
 use Rattle.std.specs.Prelude.{◌≡◌, ◌<◌, ℕ, ◌-◌, ◌*◌, ◌==◌, Bool, false, not, if◌then◌else◌, List, [], All, AllPairs, filter, fold, length, map, slice_index_or, Option, Some, None}
 use Rattle.std.specs.List.{list_any}
 use Rattle.std.specs.Option.{option_map_or}
@@ -7,11 +8,11 @@ use Rattle.hc_records.specs.Slots.{slot_number}
 use Rattle.hc_events.specs.Sendings.{Frame, Named}
 use Rattle.hc_sendings.specs.Waiting.{AwaitedFrame, AwaitedDatagram, IsTaskDatagram, is_still_awaited, is_named}
 
--- the newest frame's serial of each; none where a datagram wasn't sent
+-- the serial of each datagram's newest frame; none if the datagram was not sent
 abbrev pub LastSent : Type 0
 LastSent = List (Option ℕ)
 
--- the serial of the newest frame that a datagram was sent in; none where it wasn't sent
+-- the serial of the newest frame that a datagram was sent in; none if it was not sent
 abbrev pub last_sent_of : LastSent → Named → Option ℕ
 last_sent_of last_sent named = slice_index_or last_sent (slot_number named.0 named.1) None
 
@@ -28,12 +29,12 @@ abbrev pub last_sent_after : Named → Option ℕ → List Frame → Option ℕ
 last_sent_after named last_sent frames =
     fold (λ found frame. if list_any (is_named named) frame.datagrams then Some frame.serial else found) last_sent frames
 
--- a frame as it is kept: its serial and its datagrams
+-- a frame as it is stored: its serial and its datagrams
 pub record StoredFrame : Type 0 where
   pub serial : ℕ
   pub datagrams : List Named
 
--- a sent frame as it is kept: without the number of its bytes
+-- a sent frame as it is stored: without the number of its bytes
 abbrev pub stored_frame : Frame → StoredFrame
 stored_frame frame = record { serial = frame.serial; datagrams = frame.datagrams }
 
@@ -41,7 +42,7 @@ stored_frame frame = record { serial = frame.serial; datagrams = frame.datagrams
 abbrev pub frame_emptied : ℕ → StoredFrame → StoredFrame
 frame_emptied serial frame = if frame.serial == serial then record { serial = frame.serial; datagrams = [] } else frame
 
--- or it goes
+-- the stored frames without the one with this serial, which was answered
 abbrev pub frames_without : ℕ → List StoredFrame → List StoredFrame
 frames_without serial frames = filter (λ frame. not (frame.serial == serial)) frames
 
@@ -50,15 +51,15 @@ pub record IsLast (serial : ℕ) (frames : List StoredFrame) : Type 0 where
   pub some : 0 < length frames
   pub has_it : (d : StoredFrame) → (slice_index_or frames (length frames - 1) d).serial ≡ serial
 
--- what the table says of it
+-- the datagram of a frame with a serial, and whether this frame is its newest by the table
 abbrev pub awaited_datagram : LastSent → ℕ → Named → AwaitedDatagram
 awaited_datagram last_sent serial named = record { datagram = named; last_sent = is_last_sent last_sent serial named }
 
--- a kept frame as an awaited one: of each of its datagrams the table says whether this frame is the newest
+-- a stored frame as an awaited one: for each of its datagrams, whether this frame is its newest by the table
 abbrev pub frame_by : LastSent → StoredFrame → AwaitedFrame
 frame_by last_sent frame = record { serial = frame.serial; datagrams = map (awaited_datagram last_sent frame.serial) frame.datagrams }
 
--- those are awaited that are the newest of some datagram
+-- the awaited frames: those that are the newest of some datagram
 abbrev pub awaited_frames : LastSent → List StoredFrame → List AwaitedFrame
 awaited_frames last_sent frames = filter is_still_awaited (map (frame_by last_sent) frames)
 
@@ -68,7 +69,7 @@ pub record AreStored (last_sent : LastSent) (frames : List StoredFrame) : Type 0
   pub ascend : AllPairs (λ a b. a.serial < b.serial) frames
   pub named : All (λ frame. All IsTaskDatagram frame.datagrams) frames
 
--- the kept frames that are still awaited
+-- the stored frames that are still awaited
 abbrev pub awaited_of : LastSent → List StoredFrame → List StoredFrame
 awaited_of last_sent frames = filter (λ frame. is_still_awaited (frame_by last_sent frame)) frames
 

@@ -1,5 +1,4 @@
--- What was sent and can still be answered that is current: frames of tasks, and register writes (this project's
--- profile).
+-- The sent frames that may still be answered: frames of tasks, and register writes (this project's profile).
 use Rattle.std.specs.Prelude.{ℕ, ◌<◌, ◌==◌, ◌&&◌, not, Bool, true, false, if◌then◌else◌, List, [], ◌∷◌, ◌++◌, All, AllPairs, filter, fold, length, map}
 use Rattle.std.specs.List.{list_any}
 use Rattle.hc_records.specs.declared.limits.TheConstants.{MOST_DATAGRAMS, TASKS}
@@ -32,7 +31,7 @@ pub record Waiting : Type 0 where
   pub further : List AwaitedWrite
   pub forgotten : Bool
 
--- nothing is awaited: so it is at the opening, and after an accepted edit
+-- nothing is awaited, as at the opening and after an accepted edit
 abbrev pub nothing : Waiting
 nothing = record { frames = []; writes = []; further = []; forgotten = false }
 
@@ -50,13 +49,13 @@ just_sent named = record { datagram = named; last_sent = true }
 abbrev pub as_sent : Frame → AwaitedFrame
 as_sent frame = record { serial = frame.serial; datagrams = map just_sent frame.datagrams }
 
--- the others aren't these datagrams' any more
+-- the older frames are no longer the newest of these datagrams
 
 -- two names are of one datagram: the same task, and the same number in it
 abbrev pub is_named : Named → Named → Bool
 is_named named other = (named.0 == other.0) && (named.1 == other.1)
 
--- a datagram of an older frame after a sending of these datagrams: that frame isn't its newest if it is one of them
+-- a datagram of an older frame after a sending of these datagrams: that frame is no longer its newest if it is one of them
 abbrev pub sent_again : List Named → AwaitedDatagram → AwaitedDatagram
 sent_again again carried =
     record { datagram = carried.datagram; last_sent = carried.last_sent && not (list_any (is_named carried.datagram) again) }
@@ -65,17 +64,17 @@ sent_again again carried =
 abbrev pub with_again : List Named → AwaitedFrame → AwaitedFrame
 with_again again frame = record { serial = frame.serial; datagrams = map (sent_again again) frame.datagrams }
 
--- and a frame is awaited as long as it is the newest of one datagram at least
+-- a frame is awaited as long as it is the newest of one datagram at least
 abbrev pub is_still_awaited : AwaitedFrame → Bool
 is_still_awaited frame = list_any (λ carried. carried.last_sent) frame.datagrams
 
--- what is awaited once a frame was sent: it is after the others, and of those just the ones stay that are the newest of one datagram
--- at least
+-- the state once a frame was sent: it is after the others, and of these only those stay that are the newest of one datagram at
+-- least
 abbrev pub sent : Waiting → Frame → Waiting
 sent waiting frame =
     record waiting { frames = filter is_still_awaited (map (with_again frame.datagrams) waiting.frames ++ as_sent frame ∷ []) }
 
--- frames one after another
+-- the state once frames were sent, one after another
 abbrev pub all_sent : Waiting → List Frame → Waiting
 all_sent waiting frames = fold sent waiting frames
 
@@ -108,19 +107,20 @@ with_written again write = record write { blocks = map (written_again again) wri
 abbrev pub is_awaited : AwaitedWrite → Bool
 is_awaited write = list_any (λ block. block.last_sent) write.blocks
 
--- of older writes those that stay awaited after a write of these blocks: none where a slave was forgotten since the last write, since a write after that takes the place of all before it
+-- the older writes that stay awaited after a write of these blocks: none if a slave was forgotten since the last write, since
+-- the next write then replaces all before it
 abbrev pub left_after : List AwaitedBlock → Bool → List AwaitedWrite → List AwaitedWrite
 left_after again forgotten writes = if forgotten then [] else filter is_awaited (map (with_written again) writes)
 
--- so of the writes that carry the first owed blocks
+-- the older writes of the first owed blocks that stay awaited
 abbrev pub older_writes : List AwaitedBlock → Waiting → List AwaitedWrite
 older_writes again waiting = left_after again waiting.forgotten waiting.writes
 
--- and of those that carry further blocks
+-- the older writes of further blocks that stay awaited
 abbrev pub older_further : List AwaitedBlock → Waiting → List AwaitedWrite
 older_further again waiting = left_after again waiting.forgotten waiting.further
 
--- what is awaited once a write of these blocks, the first owed ones, was sent with this serial
+-- the state once a write of these blocks, the first owed ones, was sent with this serial
 abbrev pub wrote : ℕ → List AwaitedBlock → Waiting → Waiting
 wrote serial blocks waiting = record waiting {
   writes = older_writes blocks waiting ++ record { serial = serial; blocks = blocks } ∷ [];
@@ -128,7 +128,7 @@ wrote serial blocks waiting = record waiting {
   forgotten = false;
 }
 
--- or a write of further ones
+-- the state once a write of these further blocks was sent with this serial
 abbrev pub wrote_further : ℕ → List AwaitedBlock → Waiting → Waiting
 wrote_further serial blocks waiting = record waiting {
   writes = older_writes blocks waiting;
@@ -140,11 +140,11 @@ wrote_further serial blocks waiting = record waiting {
 abbrev pub is_newest_of : ℕ → ℕ → AwaitedBlock → Bool
 is_newest_of station number block = ((block.station == station) && (block.number == number)) && block.last_sent
 
--- a frame of writes carries the newest one of that block
+-- a frame of writes carries the newest write of the block with a station address and a number
 abbrev pub carries_newest : ℕ → ℕ → AwaitedWrite → Bool
 carries_newest station number write = list_any (is_newest_of station number) write.blocks
 
--- it is awaited
+-- the newest write of the block with a station address and a number is awaited
 abbrev pub is_newest_awaited : ℕ → ℕ → Waiting → Bool
 is_newest_awaited station number waiting = list_any (carries_newest station number) (all_writes waiting)
 
@@ -152,20 +152,21 @@ is_newest_awaited station number waiting = list_any (carries_newest station numb
 abbrev pub block_forgotten : ℕ → AwaitedBlock → AwaitedBlock
 block_forgotten station block = record block { last_sent = block.last_sent && not (block.station == station) }
 
--- a write after that
+-- a write after the slave with a station address was forgotten
 abbrev pub write_forgotten : ℕ → AwaitedWrite → AwaitedWrite
 write_forgotten station write = record write { blocks = map (block_forgotten station) write.blocks }
 
--- of writes those that stay awaited after that
+-- the writes that stay awaited after the slave with a station address was forgotten
 abbrev pub left_forgotten : ℕ → List AwaitedWrite → List AwaitedWrite
 left_forgotten station writes = filter is_awaited (map (write_forgotten station) writes)
 
--- what is awaited once the slave with a station address was forgotten: no block of that slave; frames and other blocks stay
+-- the state once the slave with a station address was forgotten: no block of that slave is awaited; frames and other blocks
+-- stay
 abbrev pub forgot : ℕ → Waiting → Waiting
 forgot station waiting =
     record waiting { writes = left_forgotten station waiting.writes; further = left_forgotten station waiting.further; forgotten = true }
 
--- what was sent with a serial was answered
+-- the state once the frame or the write with a serial was answered
 abbrev pub ended : ℕ → Waiting → Waiting
 ended serial waiting = record waiting {
   frames = filter (λ frame. not (frame.serial == serial)) waiting.frames;
@@ -173,7 +174,7 @@ ended serial waiting = record waiting {
   further = filter (λ write. not (write.serial == serial)) waiting.further;
 }
 
--- what the caller keeps to
+-- the conditions on the caller
 
 -- a datagram that a task can have
 pub record IsTaskDatagram (named : Named) : Type 0 where
@@ -185,6 +186,6 @@ pub record ComeAfter (waiting : Waiting) (frames : List Frame) : Type 0 where
   pub ascend : AllPairs (λ a b. a.serial < b.serial) frames
   pub after_it : All (λ frame. All (λ next. frame.serial < next.serial) frames) waiting.frames
 
--- what is awaited is of the line
+-- the datagrams of the awaited frames are of the line
 abbrev pub AllAreInLine : List Member → Waiting → Type 0
 AllAreInLine line waiting = All (λ frame. All (λ carried. IsInLine line carried.datagram) frame.datagrams) waiting.frames

@@ -11,16 +11,16 @@ use Rattle.hc_events.specs.Sendings.{Named}
 use Rattle.hc_events.specs.Steps.{outcome_for}
 use Rattle.hc_sendings.specs.Judging.{Due, judge_due}
 
--- what a line says of a datagram, by its row in the line's table
+-- the head of a datagram, by its row in the line's table
 abbrev pub head_of : Named → Datagram → Head
 head_of named found =
     record { item = item_of named; command = Lrw; address = found.address; length = found.length; expected = found.expected }
 
--- what the datagrams of a frame are, where all came back, each with its command, address and length; else none
+-- the outcomes of a frame's datagrams, if all came back, each with its command, address and length; otherwise none
 abbrev pub outcomes_in : List Due → List Part → Option (List Outcome)
 outcomes_in due parts =
     if has_heads (map (λ one. one.head) due) parts then Some (map (λ pair. outcome_for (judge_due pair)) (zip due parts)) else None
 
--- the outcomes that were gathered, where all came back; else none
+-- the outcomes that were gathered, if all came back; otherwise none
 abbrev pub whole_or_none : Bool → List Outcome → Option (List Outcome)
 whole_or_none whole outcomes = if whole then Some outcomes else None

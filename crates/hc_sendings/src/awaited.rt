@@ -1,4 +1,4 @@
-//! What was sent and can still be answered that is current.
+//! `Awaited`: the sent frames that may still be answered.
 ghost use Rattle.std.specs.Prelude.{◌≡◌, ◌==◌, ◌<◌, ◌≤◌, [], ◌∷◌, ◌++◌, ◌+◌, ◌⊎◌, false, true, All, AllPairs, Contains, IfSome, IsTrue, filter, find, if◌then◌else◌, length, map, nat_lt, option_map, vec_capacity, vec_len};
 ghost use Rattle.std.specs.List.Sorted.{IsPartitionPoint};
 ghost use Rattle.hc_events.specs.Sendings.{Named};
@@ -24,11 +24,11 @@ pub const FRAME_DATAGRAMS: usize = 115;
 /// was sent after it. Each later one carries all that is awaited of them.
 pub const AWAITED_WRITES: usize = 2;
 
-/// The frames of tasks and the register writes that are awaited. Contracts see a `Waiting`: the frames in
-/// the order in which they were sent, each datagram with whether this is its newest frame; the writes of the first owed
-/// blocks and those of further ones, each in their order, each block with whether this is its newest write; and whether a
-/// slave was forgotten since the last write. A frame that is the newest of no datagram is awaited no longer, so there are at most as many as
-/// datagrams, 128; nor is a write that is the newest of no block.
+/// The frames of tasks and the register writes that are awaited. Contracts see a `Waiting`. It has the frames in the order in
+/// which they were sent, and for each datagram a flag if this is its newest frame. It has the writes of the first owed blocks
+/// and those of further ones, each in their order, and for each block a flag if this is its newest write. It has a flag if a
+/// slave was forgotten since the last write. A frame that is the newest of no datagram is awaited no longer, so there are at
+/// most as many as datagrams, 128. A write that is the newest of no block is awaited no longer.
 #[derive(Debug)]
 pub struct Awaited {
     pub(crate) last_sent: LastSent,
@@ -64,7 +64,7 @@ impl Model for Awaited {
     ghost invariant = { λ awaited. AreStored awaited.last_sent awaited.frames.items × (SLOTS ≤ vec_capacity awaited.frames) };
 }
 
-/// Each frame is the newest of its datagrams, the last one last.
+/// Notes each frame as the newest of its datagrams, the last one last.
 fn note_all(last_sent: &mut LastSent, frames: &[Sending])
     requires { All (λ frame. All IsTaskDatagram frame.datagrams) frames.now }
     ensures noted { (named : Named) → IsTaskDatagram named → last_sent_of last_sent.new named ≡ last_sent_after named (last_sent_of last_sent.old named) frames.now }
@@ -75,14 +75,14 @@ fn note_all(last_sent: &mut LastSent, frames: &[Sending])
     }
 }
 
-/// Whether a frame is the newest of one of its datagrams at least.
+/// True if a frame is the newest of one of its datagrams at least.
 pub(crate) fn is_still_awaited(last_sent: &LastSent, frame: &StoredFrame) -> bool
     ensures { result ≡ is_still_awaited (frame_by last_sent.now frame.now) }
 {
     last_sent.is_any(frame.serial(), frame.datagrams())
 }
 
-/// The frames stay that are the newest of a datagram.
+/// Removes the frames that are the newest of no datagram.
 fn keep_awaited(frames: &mut Vec<StoredFrame>, last_sent: &LastSent)
     ensures frames { frames.new.items ≡ filter (λ frame. is_still_awaited (frame_by last_sent.now frame)) frames.old.items }
     ensures room { vec_capacity frames.new ≡ vec_capacity frames.old }
@@ -90,8 +90,8 @@ fn keep_awaited(frames: &mut Vec<StoredFrame>, last_sent: &LastSent)
     frames.retain(|frame| is_still_awaited(last_sent, frame));
 }
 
-/// Whether frames that come have higher serials than all that are kept, by the last one that is kept and the first that
-/// comes, and the first that is kept wasn't answered.
+/// True if the stored frames may stay when more come: the first stored one was not answered, and the serial of the last stored
+/// one is below that of the first one to come. True too if no frame is stored, or if none comes.
 fn may_stay(frames: &[StoredFrame], more: &[Sending]) -> bool
     requires stored { AllPairs (λ a b. a.serial < b.serial) frames.now }
     requires come { AllPairs (λ a b. a.serial < b.serial) more.now }
@@ -106,9 +106,9 @@ fn may_stay(frames: &[StoredFrame], more: &[Sending]) -> bool
     frames[frames.len() - 1].serial() < more[0].serial()
 }
 
-/// The frames that are the newest of no datagram go, so that few are searched; unless the first of them wasn't answered, and
-/// frames that come have higher serials than all of them: where these are noted, none of those comes to be the newest of
-/// one again.
+/// Removes the frames that are the newest of no datagram, so that few are searched. Exception: all stay if the first of them
+/// was not answered and the frames to come have higher serials. Once those are noted, none of the stored frames can become the
+/// newest of a datagram again.
 fn make_way(frames: &mut Vec<StoredFrame>, last_sent: &LastSent, more: &[Sending])
     requires stored { AllPairs (λ a b. a.serial < b.serial) frames.old.items }
     requires come { AllPairs (λ a b. a.serial < b.serial) more.now }
@@ -120,7 +120,7 @@ fn make_way(frames: &mut Vec<StoredFrame>, last_sent: &LastSent, more: &[Sending
     }
 }
 
-/// The frames that are the newest of no datagram go, unless there is room for so many more.
+/// Removes the frames that are the newest of no datagram, unless the capacity has room for `more` frames.
 fn make_room(frames: &mut Vec<StoredFrame>, last_sent: &LastSent, more: usize)
     ensures frames { (frames.new.items ≡ awaited_of last_sent.now frames.old.items) ⊎ ((frames.new.items ≡ frames.old.items) × (vec_len frames.old + more ≤ vec_capacity frames.old)) }
     ensures room { vec_capacity frames.new ≡ vec_capacity frames.old }
@@ -130,7 +130,7 @@ fn make_room(frames: &mut Vec<StoredFrame>, last_sent: &LastSent, more: usize)
     }
 }
 
-/// What is kept of a frame comes after the others; there is room for it. It is made where it is kept.
+/// Stores a frame after the others; the capacity suffices. It is made in place.
 fn push_frame(frames: &mut Vec<StoredFrame>, frame: &Sending)
     requires { vec_len frames.old < vec_capacity frames.old }
     ensures frames { frames.new.items ≡ frames.old.items ++ stored_frame frame.now ∷ [] }
@@ -141,7 +141,7 @@ fn push_frame(frames: &mut Vec<StoredFrame>, frame: &Sending)
     frames[place].fill(frame.datagrams());
 }
 
-/// What is kept of a frame comes after the others where it is the newest of a datagram; then there is room for it.
+/// Stores a frame after the others, if it is the newest of a datagram; the capacity then suffices.
 fn add_awaited(frames: &mut Vec<StoredFrame>, last_sent: &LastSent, frame: &Sending)
     requires { is_still_awaited (frame_by last_sent.now (stored_frame frame.now)) ≡ true → vec_len frames.old < vec_capacity frames.old }
     ensures frames { frames.new.items ≡ frames.old.items ++ (if is_still_awaited (frame_by last_sent.now (stored_frame frame.now)) then stored_frame frame.now ∷ [] else []) }
@@ -152,7 +152,7 @@ fn add_awaited(frames: &mut Vec<StoredFrame>, last_sent: &LastSent, frame: &Send
     }
 }
 
-/// Those of the frames that are the newest of a datagram come after the others; there is room for them.
+/// Stores those of the frames that are the newest of a datagram after the others; the capacity suffices.
 fn add_all(frames: &mut Vec<StoredFrame>, last_sent: &LastSent, more: &[Sending])
     requires { length (frames.old.items ++ filter (λ frame. is_still_awaited (frame_by last_sent.now frame)) (map stored_frame more.now)) ≤ vec_capacity frames.old }
     ensures frames { frames.new.items ≡ frames.old.items ++ filter (λ frame. is_still_awaited (frame_by last_sent.now frame)) (map stored_frame more.now) }
@@ -163,7 +163,7 @@ fn add_all(frames: &mut Vec<StoredFrame>, last_sent: &LastSent, more: &[Sending]
     }
 }
 
-/// How many frames have a lower serial.
+/// Returns the number of frames with a lower serial.
 fn count_below(frames: &[StoredFrame], serial: u64) -> usize
     requires { AllPairs (λ a b. a.serial < b.serial) frames.now }
     ensures { IsPartitionPoint (λ frame. nat_lt frame.serial serial ≡ true) (λ frame. nat_lt frame.serial serial ≡ false) frames.now result }
@@ -171,7 +171,7 @@ fn count_below(frames: &[StoredFrame], serial: u64) -> usize
     frames.partition_point(|frame| frame.serial() < serial)
 }
 
-/// The frame with a serial, where it is the newest of a datagram.
+/// Returns the frame with a serial, if it is the newest of a datagram.
 pub(crate) fn find_frame<'a>(
     last_sent: &LastSent,
     frames: &'a [StoredFrame],
@@ -190,7 +190,7 @@ pub(crate) fn find_frame<'a>(
     }
 }
 
-/// The frame with a serial, if it is kept, has no datagrams any more.
+/// Removes the datagrams of the frame with a serial, if it is stored.
 fn empty(frames: &mut Vec<StoredFrame>, serial: u64)
     requires { AllPairs (λ a b. a.serial < b.serial) frames.old.items }
     ensures frames { frames.new.items ≡ map (frame_emptied serial) frames.old.items }
@@ -202,7 +202,7 @@ fn empty(frames: &mut Vec<StoredFrame>, serial: u64)
     }
 }
 
-/// Whether the last frame has a serial.
+/// True if the last frame has a serial.
 fn is_last(frames: &[StoredFrame], serial: u64) -> bool
     ensures { IsTrue result → IsLast serial frames.now }
 {
@@ -212,7 +212,7 @@ fn is_last(frames: &[StoredFrame], serial: u64) -> bool
     frames[frames.len() - 1].serial() == serial
 }
 
-/// The frame with a serial, if it is kept, goes where it is the last one, else it has no datagrams any more.
+/// Ends the frame with a serial, if it is stored: the last frame is removed, any other loses its datagrams.
 fn end_frame(frames: &mut Vec<StoredFrame>, serial: u64)
     requires { AllPairs (λ a b. a.serial < b.serial) frames.old.items }
     ensures frames { (frames.new.items ≡ map (frame_emptied serial) frames.old.items) ⊎ (frames.new.items ≡ frames_without serial frames.old.items) }
@@ -233,7 +233,8 @@ impl Awaited {
     ghost use Rattle.hc_sendings.specs.Judging.{blocks_with, found_write};
     ghost use Rattle.hc_sendings.specs.Waiting.{ComeAfter, IsTaskDatagram, all_sent, awaited_block, ended, forgot, is_newest_awaited, left_after, nothing, older_writes, wrote, wrote_further};
 
-    /// Nothing is awaited. It takes all the memory that it will need: `AllocError` where that was refused.
+    /// Returns a state in which nothing is awaited. All memory but that of more than two further frames is allocated here.
+    /// Fails with `AllocError` if an allocation fails.
     pub fn new(alloc: Global) -> Result<Awaited, AllocError>
         ensures { IfOk result (λ awaited. awaited ≡ nothing) }
     {
@@ -246,7 +247,7 @@ impl Awaited {
         })
     }
 
-    /// Nothing is awaited any more: an edit was accepted. It takes no memory.
+    /// Ends all frames and writes, as an accepted edit does. It allocates nothing.
     pub fn clear(&mut self)
         ensures { self.new ≡ nothing }
     {
@@ -256,10 +257,9 @@ impl Awaited {
         self.forgotten = false;
     }
 
-    /// Frames of tasks are sent, in this order: each is the newest of its datagrams, and frames before it
-    /// that are left without one are awaited no longer, so that at most 128 are awaited: 16 datagrams of
-    /// each of the eight tasks. The serials ascend, above those of the frames that are awaited. It takes
-    /// no memory.
+    /// Records frames of tasks that are sent, in this order. Each is the newest of its datagrams. Frames before it that are
+    /// left without one are awaited no longer, so that at most 128 are awaited: 16 datagrams of each of the eight tasks. The
+    /// serials ascend, above those of the awaited frames. It allocates nothing.
     #[inline(always)]
     pub fn send(&mut self, frames: &[Sending])
         requires named { All (λ frame. All IsTaskDatagram frame.datagrams) frames.now }
@@ -273,7 +273,7 @@ impl Awaited {
         add_all(&mut self.frames, &self.last_sent, frames);
     }
 
-    /// Of the writes of the first owed blocks those go that a write of these blocks replaces, and the others stay.
+    /// Ends the writes of the first owed blocks that a write of these blocks replaces. The others stay.
     #[inline(always)]
     fn retire(&mut self, again: &[PlacedBlock])
         ensures { self.new ≡ record self.old { writes = older_writes (map awaited_block again.now) self.old } }
@@ -285,9 +285,9 @@ impl Awaited {
         }
     }
 
-    /// The first owed register blocks, 74 at most, are sent in one frame, and are awaited from now on. Older writes of these blocks aren't
-    /// awaited any more, and where a slave was forgotten since the last write no older write is: of the first owed blocks one
-    /// at most stays awaited, which is the caller's condition. It takes no memory.
+    /// Records one frame of the first owed register blocks, at most 74, which is awaited from then on. Older writes of these
+    /// blocks are no longer awaited, and no older write is if a slave was forgotten since the last write. The caller ensures
+    /// that at most one older write of first owed blocks stays awaited. It allocates nothing.
     #[inline(always)]
     pub fn write(&mut self, serial: u64, blocks: &[PlacedBlock])
         requires few { length blocks.now ≤ FRAME_BLOCKS }
@@ -300,10 +300,10 @@ impl Awaited {
         self.forgotten = false;
     }
 
-    /// Further register blocks, 74 at most, are sent in one frame, and are awaited from now on, beside all older frames.
-    /// Older writes of these blocks are not awaited any more, and no older write is if a slave was forgotten since the last
-    /// write. It allocates only if more further frames are awaited than ever before, and more than two. `AllocError` if an
-    /// allocation failed: nothing changed.
+    /// Records one frame of further register blocks, at most 74, which is awaited from then on, beside all older frames. Older
+    /// writes of these blocks are no longer awaited, and no older write is if a slave was forgotten since the last write. It
+    /// allocates only if more further frames are awaited than ever before, and more than two. Fails with `AllocError` if an
+    /// allocation fails; nothing has changed then.
     pub fn write_further(
         &mut self,
         alloc: Global,
@@ -320,8 +320,8 @@ impl Awaited {
         Ok(())
     }
 
-    /// The slave with a station address was forgotten: no write of its blocks is awaited any more. Frames of tasks and
-    /// writes of other blocks stay. It takes no memory.
+    /// Forgets the slave with a station address: no write of its blocks is awaited any more. Frames of tasks and writes of
+    /// other blocks stay. It allocates nothing.
     pub fn forget(&mut self, station: u16)
         ensures { self.new ≡ forgot station self.old }
     {
@@ -330,8 +330,7 @@ impl Awaited {
         self.forgotten = true;
     }
 
-    /// The frame or the write with a serial was answered, and is awaited no longer. Nothing changes where
-    /// there is none. It takes no memory.
+    /// Ends the frame or the write with a serial, which was answered. Nothing changes if there is none. It allocates nothing.
     pub fn end(&mut self, serial: u64)
         ensures { self.new ≡ ended serial self.old }
     {
@@ -340,7 +339,7 @@ impl Awaited {
         self.further.end(serial);
     }
 
-    /// The blocks of the awaited write with a serial, in its order: 74 at most.
+    /// Returns the blocks of the awaited write with a serial, in its order: at most 74; none if no such write is awaited.
     #[inline(always)]
     pub(crate) fn find_write(&self, serial: u64) -> Option<&[AwaitedBlock]>
         ensures blocks { option_map (λ blocks. blocks.now) result ≡ option_map (λ write. write.blocks) (found_write serial self.now) }
@@ -352,7 +351,7 @@ impl Awaited {
         }
     }
 
-    /// Whether the newest write of the block with a station address and a number is awaited. It takes the time of all blocks
+    /// True if the newest write of the block with a station address and a number is awaited. It takes the time of all blocks
     /// that are awaited.
     pub fn is_newest_awaited(&self, station: u16, number: u8) -> bool
         ensures { result ≡ is_newest_awaited station number self.now }
@@ -360,7 +359,7 @@ impl Awaited {
         self.further.carries(station, number) || self.writes.carries(station, number)
     }
 
-    /// The blocks of the awaited write with a serial, in its order: 74 at most; none where no such write is awaited.
+    /// Returns the blocks of the awaited write with a serial, in its order: at most 74. Empty if no such write is awaited.
     pub fn written(&self, serial: u64) -> &[AwaitedBlock]
         ensures blocks { result.now ≡ blocks_with serial self.now }
         ensures few { length result.now ≤ FRAME_BLOCKS }

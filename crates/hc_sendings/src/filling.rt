@@ -1,4 +1,4 @@
-//! Writes one task's part of a proposal, so that tasks can be written side by side.
+//! `fill_part`: one task's part of a proposal, so that the parts of tasks can be written side by side.
 ghost use Rattle.std.specs.Prelude.{◌≡◌, ◌≢◌, ◌+◌, ◌-◌, ◌^◌, ◌==◌, ◌<◌, ◌≤◌, [], All, if◌then◌else◌, length, slice_get};
 ghost use Rattle.hc_records.specs.Image.{logical_address};
 ghost use Rattle.hc_records.specs.declared.limits.TheConstants.{TASKS};
@@ -16,7 +16,7 @@ use hc_frames::limits::{BESIDE_DATA_BYTES, HEAD_BYTES, LEAST_FRAME};
 use hc_records::task::Task;
 use hc_registers::fmmu::logical_address;
 
-/// The bytes of those datagrams that are of a task, with their headers and their counters.
+/// Returns the bytes of a task's datagrams among these, with their headers and their counters.
 fn own_bytes<D: SentData>(datagrams: &[Named], task: u8, sent: &D) -> usize
     requires { 2 + carried_bytes (D.bytes sent.now) datagrams.now ≤ MAX_ETHERCAT }
     ensures bytes { result ≡ own_bytes_of (D.bytes sent.now) task datagrams.now }
@@ -59,8 +59,7 @@ fn write_datagram(out: &mut [u8], serial: u64, datagram: Named, bytes: &[u8], mo
     }
 }
 
-/// Writes those datagrams that are of a task into a slice of their exact size. A frame has 115 at most, so
-/// deep is this recursion.
+/// Writes a task's datagrams among these into a slice of their exact size. A frame has at most 115, which bounds the recursion.
 fn write_own<D: SentData>(out: &mut [u8], serial: u64, datagrams: &[Named], task: u8, sent: &D)
     requires known { All (λ named. named.0 < TASKS) datagrams.now }
     requires exact { length out.old ≡ own_bytes_of (D.bytes sent.now) task datagrams.now }
@@ -141,11 +140,11 @@ fn fill_frame_part<D: SentData>(out: &mut [u8], frame: &Sending, task: u8, sent:
     padding.fill(0);
 }
 
-/// Writes the part of one task in frames of several into a slice of its exact size: of each frame the task's
-/// datagrams, the 16 bytes before them where the frame's first datagram is the task's, and the zeros after
-/// them where its last one is; no bytes where the task has none. Each datagram carries the data that `sent`
-/// has of it, which are as many as it was planned with. Tasks are 0 to 7, and serials below 2^40. It takes no
-/// memory. A proposal has 128 frames at most, so deep is this recursion.
+/// Writes the part of one task in several frames into a slice of its exact size. The part has, for each frame, the task's
+/// datagrams, the 16 bytes before them if the frame's first datagram is the task's, and the zeros after them if its last one
+/// is. It has no bytes if the task has no datagram. Each datagram carries the data that `sent` has of it, as many bytes as it
+/// was planned with. Tasks are 0 to 7, and serials below 2^40. It allocates nothing. A proposal has at most 128 frames, which
+/// bounds the recursion.
 pub fn fill_part<D: SentData>(out: &mut [u8], frames: &[Sending], task: u8, sent: &D)
     requires can { All (CanBeWritten (D.bytes sent.now)) frames.now }
     requires exact { length out.old ≡ length (part_text (D.bytes sent.now) task frames.now) }

@@ -1,4 +1,4 @@
-//! Puts the datagrams of tasks into frames, one datagram after another.
+//! The frames of tasks: `put_frames` puts their datagrams into frames, one after another.
 ghost use Rattle.std.specs.Prelude.{◌≡◌, ◌+◌, ◌*◌, ◌^◌, ◌<◌, ◌≤◌, ◌++◌, [], IfSome, OnErr, OnOk, Some, ℕ, length, vec_capacity, vec_len};
 ghost use Rattle.hc_records.specs.Line.{line};
 ghost use Rattle.hc_records.specs.declared.limits.TheConstants.{MOST_DATAGRAMS, TASKS};
@@ -10,8 +10,9 @@ use hc_events::sending::{Named, Sending};
 use hc_plan::plan::Plan;
 use std::alloc::AllocError;
 
-/// Puts a datagram with so many bytes of data, 1 to 1,486, after frames, the last one open: into that one where it
-/// has room, else it is done and the datagram begins a frame with the next serial, or with the first one.
+/// Puts a datagram with 1 to 1,486 bytes of data after the others. It joins the last frame if that has room. Otherwise it
+/// begins a new frame, with the next serial, or with `serial` if there is no frame. Fails with `AllocError` if an allocation
+/// fails.
 #[inline(always)]
 fn place(
     frames: &mut Vec<Sending>,
@@ -42,7 +43,7 @@ fn place(
     Ok(())
 }
 
-/// Puts the datagrams of a task after the frames, the last one open.
+/// Puts the datagrams of a task after the others. Fails with `AllocError` if an allocation fails.
 #[inline(always)]
 fn place_task(
     plan: &Plan,
@@ -66,7 +67,7 @@ fn place_task(
     Ok(())
 }
 
-/// How many datagrams tasks have together, 128 at most: no sending of them has more frames.
+/// Returns the number of datagrams that tasks have together, at most 128. No sending of them has more frames.
 fn most_frames(plan: &Plan, tasks: &[u8]) -> usize
     requires { length tasks.now ≤ TASKS }
     ensures { result ≤ MOST_DATAGRAMS * TASKS }
@@ -78,9 +79,9 @@ fn most_frames(plan: &Plan, tasks: &[u8]) -> usize
     count
 }
 
-/// Puts the frames where tasks are sent, with serials from this one on, into an empty list: datagrams in the tasks'
-/// order; each joins the frame before it where that has room, else begins a frame. A list with room for 128 frames is
-/// never refused a growth, and the list's room never falls.
+/// Puts the frames of tasks, with serials from `serial` on, into an empty list. The datagrams are in the tasks' order; each
+/// joins the frame before it if that has room, otherwise it begins a frame. Fails with `AllocError` if an allocation fails,
+/// which does not happen with a capacity of 128 frames. The capacity never falls.
 #[inline(always)]
 pub(crate) fn put_frames(
     plan: &Plan,

@@ -1,4 +1,5 @@
-//! The frames of further register blocks that are awaited, beside the frames of the first owed ones. `Awaited` keeps them.
+//! `FurtherWrites`: the awaited frames of further register blocks, beside the frames of the first owed ones. `Awaited` stores
+//! them.
 ghost use Rattle.std.specs.List.{list_any};
 ghost use Rattle.std.specs.Prelude.{◌≡◌, ◌==◌, ◌<◌, ◌≤◌, [], IfOk, IfSome, OnOk, Some, find, length, map, option_map, slice_get, vec_capacity, vec_len};
 ghost use Rattle.hc_events.specs.declared.sending.TheConstants.{FRAME_BLOCKS};
@@ -13,7 +14,7 @@ use std::marker::Model;
 /// The number of further frames that can be awaited at once without an allocation: their memory is allocated at the opening.
 const READY_FRAMES: usize = 2;
 
-/// None of the writes is awaited any more.
+/// Ends all of the writes.
 fn clear_each(writes: &mut [Write])
     ensures { writes.new ≡ map none_of writes.old }
 {
@@ -22,8 +23,8 @@ fn clear_each(writes: &mut [Write])
     }
 }
 
-/// Blocks are sent in a later frame: of these writes those go that are the newest of no other block, or all, if a slave was
-/// forgotten since the last write.
+/// Follows the sending of blocks in a later frame. It ends the writes that are the newest of no other block. It ends all of
+/// them if `is_over`, which means that a slave was forgotten since the last write.
 fn retire_each(writes: &mut [Write], is_over: bool, again: &[PlacedBlock])
     ensures { writes.new ≡ map (left_after (map awaited_block again.now) is_over) writes.old }
 {
@@ -32,7 +33,7 @@ fn retire_each(writes: &mut [Write], is_over: bool, again: &[PlacedBlock])
     }
 }
 
-/// The slave with a station address is forgotten: those writes go that are the newest of no block of another slave.
+/// Follows the loss of the slave with a station address: it ends the writes that are the newest of no block of another slave.
 fn forget_each(writes: &mut [Write], station: u16)
     ensures { writes.new ≡ map (left_forgotten station) writes.old }
 {
@@ -41,7 +42,7 @@ fn forget_each(writes: &mut [Write], station: u16)
     }
 }
 
-/// The write with a serial, if there is one, was answered, and goes.
+/// Ends the write with a serial, if there is one, which was answered.
 fn end_each(writes: &mut [Write], serial: u64)
     ensures { writes.new ≡ map (writes_without serial) writes.old }
 {
@@ -50,7 +51,7 @@ fn end_each(writes: &mut [Write], serial: u64)
     }
 }
 
-/// The index of a slot whose write is awaited no longer; none if each is awaited.
+/// Returns the index of a slot whose write is awaited no longer; none if each is awaited.
 fn free_slot(writes: &[Write]) -> Option<usize>
     ensures { IfSome result (λ index. slice_get writes.now index ≡ Some []) }
 {
@@ -62,8 +63,8 @@ fn free_slot(writes: &[Write]) -> Option<usize>
     None
 }
 
-/// Takes out a slot whose write is awaited no longer, or makes one. There is room in the list then. `AllocError` if an
-/// allocation failed: no write is awaited less.
+/// Removes a slot whose write is awaited no longer, or makes a new one. The list then has room for it. Fails with `AllocError`
+/// if an allocation fails; all writes are still awaited then.
 fn take_slot(writes: &mut Vec<Write>, alloc: Global) -> Result<Write, AllocError>
     ensures empty { IfOk result (λ slot. slot ≡ []) }
     ensures room { OnOk result (vec_len writes.new < vec_capacity writes.new) }
@@ -76,7 +77,7 @@ fn take_slot(writes: &mut Vec<Write>, alloc: Global) -> Result<Write, AllocError
     Write::none(alloc)
 }
 
-/// The blocks of the write with a serial among these.
+/// Returns the blocks of the write with a serial among these.
 fn find_in(writes: &[Write], serial: u64) -> Option<&[AwaitedBlock]>
     ensures blocks { option_map (λ blocks. blocks.now) result ≡ option_map (λ write. write.blocks) (find (λ write. write.serial == serial) (in_slots writes.now)) }
     ensures few { IfSome result (λ blocks. length blocks.now ≤ FRAME_BLOCKS) }
@@ -89,7 +90,7 @@ fn find_in(writes: &[Write], serial: u64) -> Option<&[AwaitedBlock]>
     None
 }
 
-/// Whether one of these carries the newest write of the block with a station address and a number.
+/// True if one of these carries the newest write of the block with a station address and a number.
 fn any_carries(writes: &[Write], station: u16, number: u8) -> bool
     ensures { result ≡ list_any (carries_newest station number) (in_slots writes.now) }
 {
@@ -101,8 +102,8 @@ fn any_carries(writes: &[Write], station: u16, number: u8) -> bool
     false
 }
 
-/// The frames of further register blocks that are awaited, in the order in which they were sent. Contracts see the list of
-/// them. A slot whose write is awaited no longer is used again.
+/// The awaited frames of further register blocks, in the order in which they were sent. Contracts see the list of them. A slot
+/// whose write is awaited no longer is used again.
 #[derive(Debug, Drop)]
 pub(crate) struct FurtherWrites {
     writes: Vec<Write>,
@@ -124,7 +125,7 @@ impl FurtherWrites {
     ghost use Rattle.hc_events.specs.declared.sending.TheConstants.{FRAME_BLOCKS};
     ghost use Rattle.hc_sendings.specs.Waiting.{awaited_block, carries_newest, left_after, left_forgotten};
 
-    /// None is awaited. It makes the room for two frames: `AllocError` if an allocation failed.
+    /// Returns a list in which none is awaited, with memory for two frames. Fails with `AllocError` if an allocation fails.
     pub(crate) fn new(alloc: Global) -> Result<FurtherWrites, AllocError>
         ensures { IfOk result (λ writes. writes ≡ []) }
     {
@@ -134,24 +135,25 @@ impl FurtherWrites {
         Ok(FurtherWrites { writes })
     }
 
-    /// None is awaited any more.
+    /// Ends all writes.
     pub(crate) fn clear(&mut self)
         ensures { self.new ≡ [] }
     {
         clear_each(&mut self.writes);
     }
 
-    /// Blocks are sent in a later frame, of the first owed ones or of further ones: of these writes those go that are the
-    /// newest of no other block, or all, if a slave was forgotten since the last write.
+    /// Follows the sending of blocks in a later frame, of first owed or of further blocks. It ends the writes that are the
+    /// newest of no other block. It ends all of them if `is_over`, which means that a slave was forgotten since the last write.
     pub(crate) fn retire(&mut self, is_over: bool, again: &[PlacedBlock])
         ensures { self.new ≡ left_after (map awaited_block again.now) is_over self.old }
     {
         retire_each(&mut self.writes, is_over, again);
     }
 
-    /// A further frame of these blocks, 74 at most, is sent after the others. Others go that are the newest of no other
-    /// block; all go, if a slave was forgotten since the last write. It allocates only if more frames are awaited than ever
-    /// before, and more than two. `AllocError` if an allocation failed: the writes are as before.
+    /// Adds a further frame of these blocks, at most 74, after the others. It ends the writes that are the newest of no other
+    /// block, or all of them if `is_over`, which means that a slave was forgotten since the last write. It allocates only if
+    /// more frames are awaited than ever before, and more than two. Fails with `AllocError` if an allocation fails; the writes
+    /// are as before then.
     pub(crate) fn send(
         &mut self,
         alloc: Global,
@@ -170,21 +172,22 @@ impl FurtherWrites {
         Ok(())
     }
 
-    /// The slave with a station address is forgotten: those writes go that are the newest of no block of another slave.
+    /// Follows the loss of the slave with a station address: it ends the writes that are the newest of no block of another
+    /// slave.
     pub(crate) fn forget(&mut self, station: u16)
         ensures { self.new ≡ left_forgotten station self.old }
     {
         forget_each(&mut self.writes, station);
     }
 
-    /// The write with a serial, if there is one, was answered, and goes.
+    /// Ends the write with a serial, if there is one, which was answered.
     pub(crate) fn end(&mut self, serial: u64)
         ensures { self.new ≡ filter (λ write. not (write.serial == serial)) self.old }
     {
         end_each(&mut self.writes, serial);
     }
 
-    /// The blocks of the write with a serial, in its order: 74 at most.
+    /// Returns the blocks of the write with a serial, in its order: at most 74.
     pub(crate) fn find(&self, serial: u64) -> Option<&[AwaitedBlock]>
         ensures blocks { option_map (λ blocks. blocks.now) result ≡ option_map (λ write. write.blocks) (find (λ write. write.serial == serial) self.now) }
         ensures few { IfSome result (λ blocks. length blocks.now ≤ FRAME_BLOCKS) }
@@ -192,7 +195,7 @@ impl FurtherWrites {
         find_in(self.writes.as_slice(), serial)
     }
 
-    /// Whether one of them carries the newest write of the block with a station address and a number.
+    /// True if one of them carries the newest write of the block with a station address and a number.
     pub(crate) fn carries(&self, station: u16, number: u8) -> bool
         ensures { result ≡ list_any (carries_newest station number) self.now }
     {

@@ -1,4 +1,4 @@
-//! What an arrival is for what is awaited with its serial.
+//! `Awaited::judge`: the judgement of an arrival by the frame or write that is awaited with its serial.
 ghost use Rattle.std.specs.Prelude.{◌≡◌, ◌==◌, ◌<◌, ◌≤◌, List, [], ◌∷◌, All, IfOk, None, OnErr, Some, if◌then◌else◌, length, map, vec_capacity};
 ghost use Rattle.hc_records.specs.Line.{line};
 ghost use Rattle.hc_registers.specs.declared.counters.TheConstants.{WRITE_COUNT};
@@ -30,7 +30,8 @@ use hc_plan::plan::Plan;
 use hc_registers::counters::WRITE_COUNT;
 use std::alloc::AllocError;
 
-/// What a register write is that came back with this working counter.
+/// Returns the judgement of a register write of one block that came back with this working counter: `WriteDone` if it is that
+/// of a write, otherwise `WriteMissed`.
 fn sent_write_answer(counter: u16) -> Arrived
     ensures { (none : List Outcome) → arrived_answer result none ≡ write_answer (if counter == WRITE_COUNT then Good else Wrong) }
 {
@@ -47,7 +48,7 @@ impl AwaitedBlock {
     ghost use Rattle.hc_events.specs.Steps.{outcome_for};
     ghost use Rattle.hc_sendings.specs.Judging.{block_due, judge_due, written_head};
 
-    /// Whether a datagram came back with the block's command, address and length.
+    /// True if a datagram came back with the block's command, address and length.
     fn is_of(&self, part: &Part<'_>) -> bool
         ensures { result ≡ has_head (written_head self.now) part.now.carried }
     {
@@ -56,7 +57,8 @@ impl AwaitedBlock {
             && part.bytes.len() == self.length
     }
 
-    /// What its datagram is that came back with its head.
+    /// Returns the outcome of the block's datagram, which came back with its head: `Stale` if the block was sent again since or
+    /// its slave was forgotten, otherwise `Done` or `Missed` by its working counter.
     fn judge(&self, part: &Part<'_>) -> Outcome
         ensures { result ≡ outcome_for (judge_due (block_due self.now, part.now.carried)) }
     {
@@ -71,7 +73,7 @@ impl AwaitedBlock {
     }
 }
 
-/// What an arrival is for a write of one block, which has its serial.
+/// Returns the judgement of an arrival with the serial of a write of one block.
 fn judge_one(block: &AwaitedBlock, arrival: &Returned<'_>) -> Arrived
     ensures { (none : List Outcome) → arrived_answer result none ≡ judged_answer (judged_due arrival.now (block_due block.now ∷ [])) }
 {
@@ -85,8 +87,9 @@ fn judge_one(block: &AwaitedBlock, arrival: &Returned<'_>) -> Arrived
     sent_write_answer(part.counter)
 }
 
-/// Puts into an empty list what the blocks of a write are that came back as this arrival, in one walk over both. Whether
-/// all are there: not where a datagram is missing or left over, or came back with another command, address or length.
+/// Puts the outcomes of a write's blocks, which came back as this arrival, into an empty list, in one walk over both. Returns
+/// true if all are there, and false if a datagram is missing or left over, or came back with another command, address or
+/// length. Fails with `AllocError` if an allocation fails.
 #[inline(never)]
 fn judge_blocks(
     blocks: &[AwaitedBlock],
@@ -114,7 +117,7 @@ fn judge_blocks(
     Ok(came.next().is_none())
 }
 
-/// What an arrival with the serial of a write of these blocks is for it, as `Awaited::judge` says.
+/// Returns the judgement of an arrival with the serial of a write of these blocks, as `Awaited::judge` does.
 #[inline(always)]
 fn judge_write(
     blocks: &[AwaitedBlock],
@@ -138,7 +141,7 @@ fn judge_write(
     }
 }
 
-/// Whether a datagram came back with the command, the address and the length of this one.
+/// True if a datagram came back with the command, the address and the length of this one.
 fn is_of(part: &Part<'_>, sent: Datagram) -> bool
     ensures { (named : Named) → result ≡ has_head (head_of named sent) part.now.carried }
 {
@@ -147,7 +150,8 @@ fn is_of(part: &Part<'_>, sent: Datagram) -> bool
         && part.bytes.len() == usize::from(sent.length)
 }
 
-/// What a datagram is that came back with its head, by whether it wasn't sent again since.
+/// Returns the outcome of a datagram that came back with its head: `Stale` if it was sent again since, otherwise `Inputs` or
+/// `WrongCount` by its working counter.
 fn judge(datagram: Named, sent: Datagram, is_last_sent: bool, part: &Part<'_>) -> Outcome
     ensures { result ≡ outcome_for (judge_due (record { head = head_of datagram sent; last_sent = is_last_sent }, part.now.carried)) }
 {
@@ -166,7 +170,7 @@ fn judge(datagram: Named, sent: Datagram, is_last_sent: bool, part: &Part<'_>) -
     }
 }
 
-/// The datagram of the plan's line, where it came back with its command, its address and its length.
+/// Returns the datagram of the plan's line, if it came back with its command, its address and its length.
 fn sent_datagram(plan: &Plan, datagram: Named, part: &Part<'_>) -> Option<Datagram>
     requires named { IsTaskDatagram datagram }
     requires in_line { IsInLine (line plan.now) datagram }
@@ -176,9 +180,9 @@ fn sent_datagram(plan: &Plan, datagram: Named, part: &Part<'_>) -> Option<Datagr
     if is_of(part, sent) { Some(sent) } else { None }
 }
 
-/// Puts into an empty list what the datagrams of a frame are that came back as this arrival, in one walk over both.
-/// Whether all are there: not where a datagram is missing or left over, or came back with another command, address or
-/// length.
+/// Puts the outcomes of a frame's datagrams, which came back as this arrival, into an empty list, in one walk over both.
+/// Returns true if all are there, and false if a datagram is missing or left over, or came back with another command, address
+/// or length. Fails with `AllocError` if an allocation fails.
 #[inline(always)]
 fn judge_parts(
     plan: &Plan,
@@ -219,13 +223,19 @@ impl Awaited {
     ghost use Rattle.hc_sendings.specs.Waiting.{AllAreInLine};
     ghost use Rattle.hc_sendings.specs.Judging.{judged_in};
 
-    /// What an arrival is, by what is awaited with its serial: `Stale` where nothing is, or where a datagram is missing
-    /// or left over, or came back with another command, address or length; else `WriteDone` or `WriteMissed` of a
-    /// register write of one block, by its working counter; else `Answered` of tasks and `Written` of several blocks, and
-    /// the list, which is empty before, has of each datagram in the frame's order that it is stale where it was sent again
-    /// since or its slave was forgotten, else good or wrong by its working counter. What is awaited is of the plan's line.
-    /// It takes memory where the list has no room for the frame's datagrams, 115 at most, alone: `AllocError` where that
-    /// was refused, and the list is empty. Its room never falls.
+    /// Judges an arrival by the frame or write that is awaited with its serial; that is one of the plan's line. The results
+    /// are:
+    ///
+    /// - `Stale`: nothing is awaited with its serial, or a datagram is missing or left over, or came back with another command,
+    ///   address or length.
+    /// - `WriteDone` and `WriteMissed`: it answers a register write of one block, by its working counter.
+    /// - `Answered`: it answers a frame of tasks.
+    /// - `Written`: it answers a write of several blocks.
+    ///
+    /// With `Answered` and `Written` the list, which is empty before, has the outcome of each datagram in the frame's order:
+    /// stale if it was sent again since or its slave was forgotten, otherwise good or wrong by its working counter. It
+    /// allocates only if the list's capacity is less than the frame's datagrams, at most 115. Fails with `AllocError` if the
+    /// allocation fails; the list is then empty. Its capacity never falls.
     #[inline(always)]
     pub fn judge(
         &self,

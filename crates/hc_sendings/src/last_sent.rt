@@ -1,11 +1,10 @@
-//! In which frame each datagram was sent last.
+//! `LastSent`: the newest frame of each datagram.
 use hc_events::sending::Named;
 use hc_records::slots::{SLOTS, slot_number};
 use std::alloc::{AllocError, Global};
 use std::marker::Model;
 
-/// For each datagram that a task can have the serial of the newest frame that it was sent in; none where
-/// it wasn't sent.
+/// For each datagram that a task can have the serial of the newest frame that it was sent in; none if it was not sent.
 #[derive(Debug, Drop)]
 pub(crate) struct LastSent {
     serials: Vec<Option<u64>>,
@@ -31,7 +30,7 @@ impl LastSent {
     ghost use Rattle.hc_sendings.specs.Waiting.{IsTaskDatagram};
     ghost use Rattle.hc_records.specs.declared.slots.TheConstants.{SLOTS};
 
-    /// No datagram was sent. `AllocError` where the table's memory was refused.
+    /// Returns a table in which no datagram was sent. Fails with `AllocError` if the allocation fails.
     pub(crate) fn new(alloc: Global) -> Result<LastSent, AllocError>
         ensures { IfOk result (λ last_sent. length last_sent ≡ SLOTS) }
     {
@@ -40,7 +39,7 @@ impl LastSent {
         })
     }
 
-    /// Whether the newest frame that a datagram was sent in has this serial.
+    /// True if the newest frame that a datagram was sent in has this serial.
     pub(crate) fn is(&self, serial: u64, datagram: Named) -> bool
         ensures { result ≡ is_last_sent self.now serial datagram }
     {
@@ -50,14 +49,14 @@ impl LastSent {
         }
     }
 
-    /// Whether the frame with this serial is the newest of one of these datagrams.
+    /// True if the frame with this serial is the newest of one of these datagrams.
     pub(crate) fn is_any(&self, serial: u64, datagrams: &[Named]) -> bool
         ensures { result ≡ list_any (is_last_sent self.now serial) datagrams.now }
     {
         datagrams.iter().any(|datagram| self.is(serial, *datagram))
     }
 
-    /// Datagrams are sent in a frame with this serial.
+    /// Notes that datagrams are sent in a frame with this serial.
     pub(crate) fn note(&mut self, serial: u64, datagrams: &[Named])
         requires { All IsTaskDatagram datagrams.now }
         ensures places { length self.new ≡ length self.old }

@@ -1,12 +1,12 @@
-//! The frames of the first owed register blocks that are awaited: the last one that was sent, and the one before it if that can
-//! still be answered. `Awaited` keeps them.
+//! `LastWrites`: the awaited frames of the first owed register blocks. They are the last one that was sent, and the one before
+//! it if that can still be answered. `Awaited` stores them.
 use crate::write_frames::PlacedBlock;
 use crate::writes::{AwaitedBlock, Write};
 use std::alloc::{AllocError, Global};
 use std::marker::Model;
 use std::mem;
 
-/// The register writes that are awaited, two at most, in the order in which they were sent. Contracts see the list of them.
+/// The awaited register writes, at most two, in the order in which they were sent. Contracts see the list of them.
 #[derive(Debug, Drop)]
 pub(crate) struct LastWrites {
     older: Write,
@@ -29,7 +29,8 @@ impl LastWrites {
     ghost use Rattle.hc_sendings.specs.declared.awaited.TheConstants.{AWAITED_WRITES};
     ghost use Rattle.hc_sendings.specs.Waiting.{awaited_block, carries_newest, is_awaited, left_forgotten, with_written};
 
-    /// None is awaited. It takes all the memory that it will need: `AllocError` where that was refused.
+    /// Returns a state in which none is awaited, with all the memory that it will need. Fails with `AllocError` if an
+    /// allocation fails.
     pub(crate) fn new(alloc: Global) -> Result<LastWrites, AllocError>
         ensures { IfOk result (λ writes. writes ≡ []) }
     {
@@ -39,7 +40,7 @@ impl LastWrites {
         })
     }
 
-    /// None is awaited any more.
+    /// Ends all writes.
     pub(crate) fn clear(&mut self)
         ensures { self.new ≡ [] }
     {
@@ -47,8 +48,8 @@ impl LastWrites {
         self.last.clear();
     }
 
-    /// A write of these blocks is sent: they aren't the newest of the writes before it any more. A write that is the newest of no
-    /// block goes.
+    /// Follows the sending of these blocks: the writes before it are no longer their newest. A write that is the newest of no
+    /// block ends.
     #[inline(always)]
     pub(crate) fn write_again(&mut self, again: &[PlacedBlock])
         ensures { self.new ≡ filter is_awaited (map (with_written (map awaited_block again.now)) self.old) }
@@ -57,7 +58,7 @@ impl LastWrites {
         self.last.write_again(again);
     }
 
-    /// A write of these blocks comes after the one that is awaited, if one is.
+    /// Adds a write of these blocks after the one that is awaited, if one is.
     #[inline(always)]
     pub(crate) fn push(&mut self, serial: u64, placed: &[PlacedBlock])
         requires few { length placed.now ≤ FRAME_BLOCKS }
@@ -70,8 +71,8 @@ impl LastWrites {
         self.last.put(serial, placed);
     }
 
-    /// The slave with a station address is forgotten: of its blocks no write is the newest, and those writes go that are the
-    /// newest of no other block.
+    /// Follows the loss of the slave with a station address: no write is the newest of its blocks, and the writes that are the
+    /// newest of no other block end.
     pub(crate) fn forget(&mut self, station: u16)
         ensures { self.new ≡ left_forgotten station self.old }
     {
@@ -79,7 +80,7 @@ impl LastWrites {
         self.last.forget(station);
     }
 
-    /// The write with a serial, if there is one, was answered, and goes.
+    /// Ends the write with a serial, if there is one, which was answered.
     pub(crate) fn end(&mut self, serial: u64)
         ensures { self.new ≡ filter (λ write. not (write.serial == serial)) self.old }
     {
@@ -87,14 +88,14 @@ impl LastWrites {
         self.last.end(serial);
     }
 
-    /// Whether one of them carries the newest write of the block with a station address and a number.
+    /// True if one of them carries the newest write of the block with a station address and a number.
     pub(crate) fn carries(&self, station: u16, number: u8) -> bool
         ensures { result ≡ list_any (carries_newest station number) self.now }
     {
         self.older.carries(station, number) || self.last.carries(station, number)
     }
 
-    /// The blocks of the write with a serial, in its order: 74 at most.
+    /// Returns the blocks of the write with a serial, in its order: at most 74.
     pub(crate) fn find(&self, serial: u64) -> Option<&[AwaitedBlock]>
         ensures blocks { option_map (λ blocks. blocks.now) result ≡ option_map (λ write. write.blocks) (find (λ write. write.serial == serial) self.now) }
         ensures few { IfSome result (λ blocks. length blocks.now ≤ FRAME_BLOCKS) }

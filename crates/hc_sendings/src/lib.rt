@@ -1,5 +1,5 @@
-//! In which frames the datagrams of tasks are sent, their bytes, and which sendings an arrival can still answer.
-//! The core proposes, fills and commits frames, and judges and ends what is awaited.
+//! The frames of tasks, their bytes, and the sendings that may still be answered. The core proposes, fills and commits frames
+//! with it, and judges and ends awaited frames.
 #![tactic(auto)]
 
 pub mod awaited;

@@ -1,5 +1,4 @@
-//! Which bytes of the frames of several tasks are one task's to write, so that tasks can be written side
-//! by side.
+//! `part_size`: the bytes of one task in the frames of several tasks, so that tasks can be written side by side.
 ghost use Rattle.std.specs.Prelude.{◌≡◌, ◌+◌, ◌*◌, ◌≤◌, All, length, sum_by};
 ghost use Rattle.hc_records.specs.Line.{line};
 ghost use Rattle.hc_frames.specs.declared.limits.TheConstants.{SETUP_SERIAL};
@@ -10,7 +9,7 @@ use hc_events::sending::{Named, Sending};
 use hc_frames::limits::{BESIDE_DATA_BYTES, HEAD_BYTES, LEAST_FRAME};
 use hc_plan::plan::Plan;
 
-/// The bytes of a datagram of the plan's line with its header and its working counter, at most 1,498.
+/// Returns the bytes of a datagram of the plan's line with its header and its working counter, at most 1,498.
 fn own_bytes(plan: &Plan, datagram: Named) -> usize
     requires { IsInLine (line plan.now) datagram }
     ensures bytes { result ≡ own_bytes (line plan.now) datagram }
@@ -21,7 +20,7 @@ fn own_bytes(plan: &Plan, datagram: Named) -> usize
     BESIDE_DATA_BYTES + usize::from(datagrams[usize::from(number)].length)
 }
 
-/// The bytes of datagrams of the plan's line, at most 115.
+/// Returns the bytes of datagrams of the plan's line, of which there are at most 115.
 fn datagrams_bytes(plan: &Plan, datagrams: &[Named]) -> usize
     requires in_line { All (IsInLine (line plan.now)) datagrams.now }
     requires few { length datagrams.now ≤ 115 }
@@ -35,7 +34,7 @@ fn datagrams_bytes(plan: &Plan, datagrams: &[Named]) -> usize
     bytes
 }
 
-/// The bytes of those that are of a task.
+/// Returns the bytes of a task's datagrams among these.
 fn own_share(plan: &Plan, datagrams: &[Named], task: u8) -> usize
     requires in_line { All (IsInLine (line plan.now)) datagrams.now }
     requires few { length datagrams.now ≤ 115 }
@@ -76,8 +75,8 @@ fn frame_part(plan: &Plan, datagrams: &[Named], task: u8) -> usize
         + share(task, padding, datagrams.last().copied())
 }
 
-/// The bytes of a task's part of frames of the plan's line: its datagrams, the 16 bytes before those of a
-/// frame whose first one is the task's, and the zeros after those of a frame whose last one is.
+/// Returns the bytes of a task's part of frames of the plan's line. The part has the task's datagrams, the 16 bytes before
+/// those of a frame whose first datagram is the task's, and the zeros after those of a frame whose last one is.
 pub fn part_size(plan: &Plan, frames: &[Sending], task: u8) -> usize
     requires in_line { All (λ frame. All (IsInLine (line plan.now)) frame.datagrams) frames.now }
     requires few { length frames.now ≤ SETUP_SERIAL }

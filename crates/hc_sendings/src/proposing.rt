@@ -1,4 +1,4 @@
-//! Proposes frames of tasks: what the next sending would be, which uses no serial yet.
+//! `propose_into` and `preview`: the frames of the next sending, which use no serial yet.
 ghost use Rattle.std.specs.Prelude.{◌≡◌, ◌≢◌, ◌<◌, ◌≤◌, ◌+◌, ◌*◌, [], All, Err, IfErr, IfSome, None, OnErr, OnOk, Some, length, ◌&&◌, nat_lt, vec_capacity};
 ghost use Rattle.std.specs.List.{list_any};
 ghost use Rattle.hc_records.specs.Line.{line};
@@ -20,7 +20,7 @@ use hc_frames::limits::SETUP_SERIAL;
 use hc_plan::plan::Plan;
 use hc_records::limits::TASKS;
 
-/// Whether there is no task with one of these numbers.
+/// True if one of these numbers is over 7, so that no task has it.
 fn names_no_task(tasks: &[u8]) -> bool
     ensures { result ≡ list_any is_no_task tasks.now }
 {
@@ -41,7 +41,8 @@ fn refuse_early(owed: u32, tasks: &[u8]) -> Result<(), CoreFault>
     Ok(())
 }
 
-/// Puts the frames of tasks into an empty list, where enough serials are left.
+/// Puts the frames of tasks into an empty list. Fails with `SerialsSpent` if too few serials are left, or with `Memory` if an
+/// allocation fails.
 #[inline(always)]
 fn plan_frames(
     plan: &Plan,
@@ -66,18 +67,20 @@ fn plan_frames(
     Ok(())
 }
 
-/// The frames where 1 to 8 distinct tasks are sent by a plan, with serials from `serial` on, which is at most the serial
-/// of alias reads and station writes: datagrams in the tasks' order; each joins the frame before it where that has room,
-/// else begins a frame; none where the tasks have no datagram. So their datagrams are the line's, and their serials are
-/// below the serial of alias reads and station writes.
+/// Proposes the frames in which 1 to 8 distinct tasks are sent by a plan, with serials from `serial` on, which is at most the
+/// serial of alias reads and station writes. The datagrams are in the tasks' order; each joins the frame before it if that has
+/// room, otherwise it begins a frame. There is no frame if the tasks have no datagram. The datagrams are the line's, and the
+/// serials are below the serial of alias reads and station writes.
 ///
-/// They are put into a list that is used again: what it held is dropped, and it is empty where they are refused. It takes
-/// memory where the list has no room for as many frames as the tasks have datagrams; so one with room for 128, 16 of each
-/// of the eight tasks, takes none (this project's profile). The list's room never falls.
+/// The frames are put into a list that is used again. Its earlier content is dropped, it is empty after a failure, and its
+/// capacity never falls. It allocates only if that capacity is less than the datagrams of the tasks: with a capacity of 128, 16
+/// for each of the eight tasks, it allocates nothing (this project's profile). It fails with the first of these that holds:
 ///
-/// `NoSuchTask` where a number is over 7; `Unprogrammed` where register blocks are owed, `owed` of them;
-/// `SerialsSpent` where the frames need more serials than are left; and of several the first of these.
-/// `Memory` where a growth was refused, and only after the first two.
+/// - `NoSuchTask`: a number is over 7.
+/// - `Unprogrammed`: register blocks are owed, `owed` of them.
+/// - `SerialsSpent`: the frames need more serials than are left.
+///
+/// `Memory` (an allocation failed) can come in place of the last one.
 #[inline(always)]
 pub fn propose_into(
     plan: &Plan,
@@ -107,7 +110,7 @@ pub fn propose_into(
     planned
 }
 
-/// Whether a datagram with this number can be sent, of so many, with this serial.
+/// True if a task with `count` datagrams has the datagram with this number, and a serial is left.
 fn is_sendable(serial: u64, count: usize, number: u8) -> bool
     requires { serial ≤ SETUP_SERIAL }
     ensures { result ≡ (nat_lt number count && serials_left serial 1) }
@@ -115,10 +118,9 @@ fn is_sendable(serial: u64, count: usize, number: u8) -> bool
     usize::from(number) < count && serial < SETUP_SERIAL
 }
 
-/// The frame of one datagram of a task alone, as it would be sent next by a plan, whether or not blocks
-/// are owed: with the next serial, which is at most the serial of alias reads and station writes. None
-/// where the task has no such datagram, there is no such task, or no serial is left. It takes no
-/// memory.
+/// Returns the frame of one datagram of a task alone, as it would be sent next by a plan, even if blocks are owed. Its serial
+/// is the next one, which is at most the serial of alias reads and station writes. None if the task has no such datagram, if
+/// there is no such task, or if no serial is left. It allocates nothing.
 pub fn preview(plan: &Plan, serial: u64, task: u8, number: u8) -> Option<Sending>
     requires { serial ≤ SETUP_SERIAL }
     ensures { result ≡ preview_in (line plan.now) serial task number }

@@ -1,10 +1,10 @@
-//! A frame of tasks as it is kept while it is awaited.
+//! `StoredFrame`: a frame of tasks as it is stored while it is awaited.
 use arrayvec::ArrayVec;
 use hc_events::sending::Named;
 use std::marker::Model;
 
-/// The serial of a frame, and its datagrams in order: 115 at most, since the 1,498 bytes after the EtherCAT
-/// header hold so many of one data byte, 13 bytes each (ETG.1000.4, 5.3 and 5.4). It owns no memory.
+/// The serial of a frame, and its datagrams in order, at most 115: the 1,498 bytes after the EtherCAT header hold so many of
+/// one data byte, 13 bytes each (ETG.1000.4, 5.3 and 5.4). It owns no memory.
 #[derive(Debug, Drop)]
 pub(crate) struct StoredFrame {
     serial: u64,
@@ -23,7 +23,7 @@ impl StoredFrame {
     ghost use Rattle.std.specs.Prelude.{◌≡◌, ◌≤◌, [], length};
     ghost use Rattle.hc_sendings.specs.declared.awaited.TheConstants.{FRAME_DATAGRAMS};
 
-    /// One with this serial, and no datagrams yet.
+    /// Returns a frame with this serial, and no datagrams yet.
     pub(crate) fn new(serial: u64) -> StoredFrame
         ensures { result ≡ record { serial = serial; datagrams = [] } }
     {
@@ -33,7 +33,7 @@ impl StoredFrame {
         }
     }
 
-    /// It has these datagrams, where it had none. One datagram needs no loop.
+    /// Stores these datagrams in a frame that has none. One datagram needs no loop.
     pub(crate) fn fill(&mut self, datagrams: &[Named])
         requires empty { self.old.datagrams ≡ [] }
         requires few { length datagrams.now ≤ FRAME_DATAGRAMS }
@@ -48,7 +48,7 @@ impl StoredFrame {
         }
     }
 
-    /// It was answered: nothing is awaited of it any more.
+    /// Removes the datagrams of a frame that was answered.
     pub(crate) fn clear(&mut self)
         ensures { self.new ≡ record self.old { datagrams = [] } }
     {

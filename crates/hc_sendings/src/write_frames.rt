@@ -1,5 +1,5 @@
-//! A frame of register writes: the owed blocks that share it, and its bytes. The core fills it from the first owed block
-//! on, writes it, and hands its blocks to what is awaited.
+//! `WriteFrame`: a frame of register writes, with the owed blocks that share it. The core fills it from the first owed block
+//! on, writes it, and hands its blocks to `Awaited`.
 ghost use Rattle.std.specs.Prelude.{◌≡◌, ◌+◌, ◌≤◌, length, map, replicate};
 ghost use Rattle.hc_frames.specs.FrameText.{sent_datagrams_text};
 ghost use Rattle.hc_frames.specs.declared.limits.TheConstants.{MAX_ETHERCAT};
@@ -14,7 +14,7 @@ use hc_records::items::Items;
 use std::alloc::{AllocError, Global};
 use std::marker::Model;
 
-/// A block of the line, and its place for who confirms its write.
+/// A block of the line, with its place, by which its write is confirmed.
 #[derive(Debug, Drop)]
 pub struct PlacedBlock {
     /// Its place.
@@ -34,7 +34,7 @@ impl PlacedBlock {
         self.block.block.bytes()
     }
 
-    /// As its write is awaited once it was sent.
+    /// Returns the block as its write is awaited once it was sent.
     pub(crate) fn awaited(&self) -> AwaitedBlock
         ensures { result ≡ awaited_block self.now }
     {
@@ -50,8 +50,8 @@ impl PlacedBlock {
     }
 }
 
-/// Writes the datagrams of blocks one after another into a slice of their exact size. A frame has 74 at most, so deep
-/// is this recursion.
+/// Writes the datagrams of blocks one after another into a slice of their exact size. A frame has at most 74, which bounds the
+/// recursion.
 fn write_datagrams(out: &mut [u8], serial: u64, blocks: &[PlacedBlock])
     requires exact { length out.old ≡ placed_bytes blocks.now }
     requires size { 2 + placed_bytes blocks.now ≤ MAX_ETHERCAT }
@@ -73,8 +73,8 @@ fn write_datagrams(out: &mut [u8], serial: u64, blocks: &[PlacedBlock])
     }
 }
 
-/// Zeros after the head of a frame of the least size, before its datagrams are written: so many are written without a call,
-/// and its padding isn't filled by one.
+/// Fills the 44 bytes after the head of a frame of the least size with zeros, before its datagrams are written. They are
+/// written without a call, and the padding needs no further one. A longer frame stays as it is.
 #[inline(always)]
 fn clear_least(rest: &mut [u8])
     ensures size { length rest.new ≡ length rest.old }
@@ -85,10 +85,10 @@ fn clear_least(rest: &mut [u8])
     }
 }
 
-/// The first owed blocks, in order, that share a frame. It has room for the 74 blocks that a frame holds at most.
+/// The first owed blocks, in order, that share a frame. Its capacity is the 74 blocks that a frame holds at most.
 #[derive(Debug, Drop)]
 pub struct WriteFrame {
-    // of its datagrams, with their headers and their counters
+    // the bytes of its datagrams, with their headers and their counters
     bytes: u16,
     blocks: Vec<PlacedBlock>,
 }
@@ -114,7 +114,7 @@ impl WriteFrame {
     ghost use Rattle.hc_events.specs.declared.sending.TheConstants.{FRAME_BLOCKS};
     ghost use Rattle.hc_sendings.specs.WriteFrames.{LEAST_BLOCK, block_joined, no_blocks, placed_text};
 
-    /// No block yet. It takes all the memory that it will need: `AllocError` where that was refused.
+    /// Returns a frame without blocks, with all the memory that it will need. Fails with `AllocError` if the allocation fails.
     pub fn new(alloc: Global) -> Result<WriteFrame, AllocError>
         ensures { IfOk result (λ frame. frame ≡ no_blocks) }
     {
@@ -124,7 +124,7 @@ impl WriteFrame {
         })
     }
 
-    /// It has no blocks any more. It takes no memory.
+    /// Removes all blocks. It allocates nothing.
     pub fn clear(&mut self)
         ensures { self.new ≡ no_blocks }
     {
@@ -132,8 +132,8 @@ impl WriteFrame {
         self.bytes = 0;
     }
 
-    /// Whether a block with so many bytes, at most 1,486, can join the frame: the frame then has at most the 1,500 bytes
-    /// that may follow the Ethernet header.
+    /// True if a block with so many bytes, at most 1,486, can join the frame: the frame then has at most the 1,500 bytes that
+    /// may follow the Ethernet header.
     pub fn has_room(&self, length: u16) -> bool
         requires { length ≤ MAX_DATA }
         ensures { result ≡ has_room self.now.bytes length }
@@ -182,8 +182,8 @@ impl WriteFrame {
         write_datagrams(texts, serial, self.blocks.as_slice());
     }
 
-    /// Writes the frame to the front of `out`, and answers its size in bytes. `serial` is below 2^40. `Room` with the size
-    /// needed where `out` is shorter; `out` is then as it was. It takes no memory.
+    /// Writes the frame to the start of `out`, and returns its size in bytes. `serial` is below 2^40. Fails with `Room` and the
+    /// size needed if `out` is shorter; `out` is then as it was. It allocates nothing.
     #[inline(always)]
     pub fn write_into(&self, out: &mut [u8], serial: u64) -> Result<usize, Room>
         requires serial { serial < 2 ^ 40 }
@@ -197,7 +197,7 @@ impl WriteFrame {
         Ok(size)
     }
 
-    /// The frame's bytes in memory of their own. `AllocError` where that was refused.
+    /// Returns the frame's bytes in newly allocated memory. Fails with `AllocError` if the allocation fails.
     pub fn text(&self, alloc: Global, serial: u64) -> Result<Items<u8>, AllocError>
         requires serial { serial < 2 ^ 40 }
         ensures { IfOk result (λ text. text ≡ placed_text serial self.now.blocks) }

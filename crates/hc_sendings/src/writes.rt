@@ -1,4 +1,4 @@
-//! Register blocks as they are kept while their write is awaited, and a frame of them.
+//! The register blocks of an awaited write (`AwaitedBlock`), and a frame of them (`Write`).
 ghost use Rattle.std.specs.Prelude.{◌≡◌, ◌≤◌, length, map, vec_capacity};
 ghost use Rattle.std.specs.List.{list_any};
 ghost use Rattle.hc_sendings.specs.Waiting.{awaited_block, block_forgotten, is_newest_of, is_same, written_again};
@@ -11,7 +11,7 @@ use std::marker::Model;
 /// A register block of a write that was sent.
 #[derive(Clone, Copy, Debug, Default, PartialEq, Eq)]
 pub struct AwaitedBlock {
-    /// The place of the block, for who confirms it.
+    /// The place of the block, by which its write is confirmed.
     pub place: u32,
     /// The station address of its slave.
     pub station: u16,
@@ -21,18 +21,18 @@ pub struct AwaitedBlock {
     pub address: u32,
     /// The number of data bytes that it was sent with.
     pub length: usize,
-    /// No later write of the block was sent, and its slave wasn't forgotten since.
+    /// True if no later write of the block was sent, and its slave was not forgotten since.
     pub last_sent: bool,
 }
 
-/// Whether two are of one block.
+/// True if both are writes of one block.
 fn is_same(block: &AwaitedBlock, other: &AwaitedBlock) -> bool
     ensures { result ≡ is_same block.now other.now }
 {
     block.station == other.station && block.number == other.number
 }
 
-/// Whether a block is one of these.
+/// True if a block is one of these.
 fn is_among(block: &AwaitedBlock, placed: &[PlacedBlock]) -> bool
     ensures { result ≡ list_any (λ other. is_same block.now (awaited_block other)) placed.now }
 {
@@ -59,7 +59,7 @@ fn forgotten(block: &AwaitedBlock, station: u16) -> AwaitedBlock
     }
 }
 
-/// A write of these blocks is sent: blocks that are among them aren't the newest any more. It is a function of its own in the
+/// Follows a write of these blocks: those among the older blocks are no longer the newest. It is a function of its own in the
 /// built code too, since mostly no older write is awaited.
 #[inline(never)]
 fn write_again(blocks: &mut [AwaitedBlock], again: &[PlacedBlock])
@@ -70,7 +70,7 @@ fn write_again(blocks: &mut [AwaitedBlock], again: &[PlacedBlock])
     }
 }
 
-/// The slave with a station address is forgotten: its blocks aren't the newest any more.
+/// Follows the loss of the slave with a station address: its blocks are no longer the newest.
 fn forget_blocks(blocks: &mut [AwaitedBlock], station: u16)
     ensures { blocks.new ≡ map (block_forgotten station) blocks.old }
 {
@@ -79,21 +79,21 @@ fn forget_blocks(blocks: &mut [AwaitedBlock], station: u16)
     }
 }
 
-/// Whether one of the blocks is the newest.
+/// True if one of the blocks is the newest.
 pub(crate) fn any_last_sent(blocks: &[AwaitedBlock]) -> bool
     ensures { result ≡ list_any (λ block. block.last_sent) blocks.now }
 {
     blocks.iter().any(|block| block.last_sent)
 }
 
-/// Whether this is the newest write of the block with a station address and a number.
+/// True if this is the newest write of the block with a station address and a number.
 fn is_newest_of(block: &AwaitedBlock, station: u16, number: u8) -> bool
     ensures { result ≡ is_newest_of station number block.now }
 {
     block.station == station && block.number == number && block.last_sent
 }
 
-/// Whether the newest write of the block with a station address and a number is among these.
+/// True if the newest write of the block with a station address and a number is among these.
 fn any_newest_of(blocks: &[AwaitedBlock], station: u16, number: u8) -> bool
     ensures { result ≡ list_any (is_newest_of station number) blocks.now }
 {
@@ -102,7 +102,7 @@ fn any_newest_of(blocks: &[AwaitedBlock], station: u16, number: u8) -> bool
         .any(|block| is_newest_of(block, station, number))
 }
 
-/// Puts these blocks in place of those that are in a list with room for them.
+/// Replaces the blocks of a list, whose capacity suffices, with these blocks.
 fn put_blocks(blocks: &mut Vec<AwaitedBlock>, placed: &[PlacedBlock])
     requires { length placed.now ≤ vec_capacity blocks.old }
     ensures blocks { blocks.new.items ≡ map awaited_block placed.now }
@@ -119,9 +119,9 @@ fn put_blocks(blocks: &mut Vec<AwaitedBlock>, placed: &[PlacedBlock])
     }
 }
 
-/// A frame of register writes as long as it is awaited: its serial, and its blocks in order, 74 at most, since each has 8
-/// bytes at least, 20 with its header and its working counter, and 1,498 bytes follow the EtherCAT header (ETG.1000.4, 5.3
-/// and 5.4). Contracts see a list of this frame, or of none. Its room is made at the opening.
+/// A frame of register writes as long as it is awaited: its serial, and its blocks in order, at most 74. Each block has at
+/// least 8 bytes, 20 with its header and its working counter, and 1,498 bytes follow the EtherCAT header (ETG.1000.4, 5.3 and
+/// 5.4). Contracts see a list of this frame, or of none. Its memory is allocated when it is made.
 #[derive(Debug, Drop)]
 pub(crate) struct Write {
     serial: u64,
@@ -147,7 +147,7 @@ impl Write {
     ghost use Rattle.hc_events.specs.declared.sending.TheConstants.{FRAME_BLOCKS};
     ghost use Rattle.hc_sendings.specs.Waiting.{awaited_block, carries_newest, is_awaited, left_after, left_forgotten, with_written};
 
-    /// None is awaited. `AllocError` where its memory was refused.
+    /// Returns a slot in which no frame is awaited. Fails with `AllocError` if the allocation fails.
     pub(crate) fn none(alloc: Global) -> Result<Write, AllocError>
         ensures { IfOk result (λ write. write ≡ []) }
     {
@@ -158,21 +158,21 @@ impl Write {
         })
     }
 
-    /// Whether none is awaited.
+    /// True if no frame is awaited.
     pub(crate) fn is_none(&self) -> bool
         ensures { result ≡ (length self.now == 0) }
     {
         !self.is_awaited
     }
 
-    /// None is awaited any more.
+    /// Ends the frame.
     pub(crate) fn clear(&mut self)
         ensures { self.new ≡ [] }
     {
         self.is_awaited = false;
     }
 
-    /// A write of these blocks is awaited from now on.
+    /// Stores a write of these blocks, which is awaited from then on.
     pub(crate) fn put(&mut self, serial: u64, placed: &[PlacedBlock])
         requires { length placed.now ≤ FRAME_BLOCKS }
         ensures { self.new ≡ record { serial = serial; blocks = map awaited_block placed.now } ∷ [] }
@@ -182,7 +182,7 @@ impl Write {
         self.is_awaited = true;
     }
 
-    /// The blocks in order, where it has this serial.
+    /// Returns the blocks in order, if the awaited frame has this serial.
     pub(crate) fn find(&self, serial: u64) -> Option<&[AwaitedBlock]>
         ensures blocks { option_map (λ blocks. blocks.now) result ≡ option_map (λ write. write.blocks) (find (λ write. write.serial == serial) self.now) }
         ensures few { IfSome result (λ blocks. length blocks.now ≤ FRAME_BLOCKS) }
@@ -194,14 +194,14 @@ impl Write {
         }
     }
 
-    /// Whether it carries the newest write of the block with a station address and a number.
+    /// True if it carries the newest write of the block with a station address and a number.
     pub(crate) fn carries(&self, station: u16, number: u8) -> bool
         ensures { result ≡ list_any (carries_newest station number) self.now }
     {
         self.is_awaited && any_newest_of(self.blocks.as_slice(), station, number)
     }
 
-    /// A write of these blocks is sent.
+    /// Follows a write of these blocks: the frame ends if it is the newest write of no other block.
     #[inline(always)]
     pub(crate) fn write_again(&mut self, again: &[PlacedBlock])
         ensures { self.new ≡ filter is_awaited (map (with_written (map awaited_block again.now)) self.old) }
@@ -212,8 +212,8 @@ impl Write {
         }
     }
 
-    /// A later frame with these blocks is sent: it goes if it is the newest write of no other block, or if a slave was
-    /// forgotten since the last write.
+    /// Follows a later frame with these blocks. The frame ends if it is the newest write of no other block, or if a slave was
+    /// forgotten since the last write (`is_over`).
     pub(crate) fn retire(&mut self, is_over: bool, again: &[PlacedBlock])
         ensures { self.new ≡ left_after (map awaited_block again.now) is_over self.old }
     {
@@ -224,7 +224,8 @@ impl Write {
         }
     }
 
-    /// The slave with a station address is forgotten.
+    /// Follows the loss of the slave with a station address: the frame ends if it is the newest write of no block of another
+    /// slave.
     pub(crate) fn forget(&mut self, station: u16)
         ensures { self.new ≡ left_forgotten station self.old }
     {
@@ -234,7 +235,7 @@ impl Write {
         }
     }
 
-    /// What was sent with a serial was answered.
+    /// Ends the frame if it has this serial, since it was answered.
     pub(crate) fn end(&mut self, serial: u64)
         ensures { self.new ≡ filter (λ write. not (write.serial == serial)) self.old }
     {

@@ -1,4 +1,4 @@
-//! Writes the frames that were planned.
+//! `write_frame` and `frame_text`: the bytes of planned frames.
 ghost use Rattle.std.specs.Prelude.{◌≡◌, ◌+◌, ◌^◌, ◌<◌, ◌≤◌, ◌++◌, ℕ, All, IfOk, List, OnOk, length, map, replicate};
 ghost use Rattle.hc_records.specs.declared.limits.TheConstants.{TASKS};
 ghost use Rattle.hc_frames.specs.FrameText.{sent_datagrams_text};
@@ -18,7 +18,7 @@ use std::alloc::{AllocError, Global};
 /// The most bytes of datagrams of a frame that is written over zeros. A longer one is added part by part.
 const SHORT_BYTES: usize = 500;
 
-/// Where the data are with which datagrams are sent.
+/// The source of the data that datagrams are sent with.
 pub trait SentData {
     /// The data of each datagram, by its task and its number in the task.
     ghost bytes: { Self → ℕ → ℕ → List ℕ };
@@ -28,7 +28,7 @@ pub trait SentData {
         ensures { result.now ≡ bytes self.now task number };
 }
 
-/// The bytes of datagrams, with their headers and their counters.
+/// Returns the bytes of datagrams, with their headers and their counters.
 pub(crate) fn carried_bytes<D: SentData>(datagrams: &[Named], sent: &D) -> usize
     requires { 2 + carried_bytes (D.bytes sent.now) datagrams.now ≤ MAX_ETHERCAT }
     ensures { result ≡ carried_bytes (D.bytes sent.now) datagrams.now }
@@ -41,8 +41,7 @@ pub(crate) fn carried_bytes<D: SentData>(datagrams: &[Named], sent: &D) -> usize
     }
 }
 
-/// Writes datagrams one after another into a slice of their exact size. A frame has 115 at most, so deep
-/// is this recursion.
+/// Writes datagrams one after another into a slice of their exact size. A frame has at most 115, which bounds the recursion.
 fn write_datagrams<D: SentData>(out: &mut [u8], serial: u64, datagrams: &[Named], sent: &D)
     requires known { All (λ named. named.0 < TASKS) datagrams.now }
     requires exact { length out.old ≡ carried_bytes (D.bytes sent.now) datagrams.now }
@@ -58,7 +57,8 @@ fn write_datagrams<D: SentData>(out: &mut [u8], serial: u64, datagrams: &[Named]
     }
 }
 
-/// The bytes of a frame's datagrams. Those of a frame over the least size are all after its head, so they aren't counted.
+/// Returns the bytes of a frame's datagrams. In a frame over the least size these are all bytes after its head, so that they
+/// need no count.
 #[inline(always)]
 fn datagrams_bytes<D: SentData>(whole: usize, datagrams: &[Named], sent: &D) -> usize
     requires size { 2 + carried_bytes (D.bytes sent.now) datagrams.now ≤ MAX_ETHERCAT }
@@ -72,9 +72,9 @@ fn datagrams_bytes<D: SentData>(whole: usize, datagrams: &[Named], sent: &D) -> 
     }
 }
 
-/// Writes a frame of tasks into a slice of its exact size: at least 60 bytes, and 16 more than its
-/// datagrams have with their headers and counters, which are 1,498 at most. Each datagram carries the data
-/// that `sent` has of it, and more follow each but the last. The serial is below 2^40. It takes no memory.
+/// Writes a frame of tasks into a slice of its exact size: at least 60 bytes, and 16 more than its datagrams have with their
+/// headers and counters, which are at most 1,498. Each datagram carries the data that `sent` has of it, and each but the last
+/// tells that more follow. The serial is below 2^40. It allocates nothing.
 #[inline(always)]
 pub fn write_frame<D: SentData>(out: &mut [u8], frame: &Sending, sent: &D)
     requires serial { frame.now.serial < 2 ^ 40 }
@@ -94,7 +94,7 @@ pub fn write_frame<D: SentData>(out: &mut [u8], frame: &Sending, sent: &D)
     }
 }
 
-/// Adds datagrams one after another to a text. A frame has 115 at most, so deep is this recursion.
+/// Adds datagrams one after another to a text. A frame has at most 115, which bounds the recursion.
 fn add_datagrams<D: SentData>(
     text: &mut Vec<u8>,
     serial: u64,
@@ -126,7 +126,8 @@ fn add_padding(text: &mut Vec<u8>, size: usize) -> Result<(), AllocError>
     text.extend_from_slice(&[0; 44][..zeros])
 }
 
-/// The text of a frame with so many bytes of datagrams, written over zeros: that takes the fewest steps where the frame is short.
+/// Returns the text of a frame with so many bytes of datagrams, written over zeros, which takes the fewest steps for a short
+/// frame.
 fn text_over_zeros<D: SentData>(
     alloc: Global,
     frame: &Sending,
@@ -145,7 +146,7 @@ fn text_over_zeros<D: SentData>(
     Ok(Items::of(text))
 }
 
-/// The text of a frame with so many bytes of datagrams, added part by part: no byte of it is written twice.
+/// Returns the text of a frame with so many bytes of datagrams, added part by part: no byte of it is written twice.
 fn text_by_parts<D: SentData>(
     alloc: Global,
     frame: &Sending,
@@ -166,8 +167,8 @@ fn text_by_parts<D: SentData>(
     Ok(Items::of(text))
 }
 
-/// The text of a frame of tasks, as `write_frame` writes it into a slice. It takes the text's memory alone: `AllocError`
-/// where that was refused.
+/// Returns the text of a frame of tasks, as `write_frame` writes it into a slice. It allocates only the text's memory. Fails
+/// with `AllocError` if the allocation fails.
 pub fn frame_text<D: SentData>(
     alloc: Global,
     frame: &Sending,

@@ -1,4 +1,4 @@
--- How far areas fill a datagram, some of them after others.
+-- The filling of a datagram by areas, some of them after others.
 use Rattle.std.proofs.Common.{◌≡◌, List, [], ◌∷◌, ◌++◌, refl}
 use Rattle.hc_records.specs.TaskList.{Keyed}
 use Rattle.hc_bitsum.specs.declared.filled.Filled.{Filled}

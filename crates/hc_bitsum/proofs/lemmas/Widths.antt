@@ -15,7 +15,7 @@ use Rattle.hc_records.proofs.lemmas.SpanCuts.{task-list-from}
 use Rattle.hc_records.proofs.lemmas.Spans.{IsListFrom, list-after_it, list-tail, width-here, agree-by, width-before}
 use Rattle.hc_bitsum.specs.Tree.{with_width}
 
--- a list of areas with a width where no key is another's is given by its widths
+-- a list of areas with a width is given by its widths, if no key is another's
 
 -- the first area of one list isn't before all of the other
 first-later : (first : Key) (x : Keyed) (xs ys : List Keyed) → IsListFrom first (x ∷ xs) → All (λ area. is_before x.0 area.0 ≡ true) ys
@@ -86,7 +86,7 @@ set-by none same key other bits xs test h7 = grind arith
 zero-or : (bits : ℕ) → (if bits == 0 then 0 else bits) ≡ bits
 zero-or bits = grind arith
 
--- by where the other key is: below, above, or it is the same
+-- by the position of the other key: below, above, or the same
 set-parts : (key other : Key) (bits : ℕ) (list : List Keyed) (low high same : Bool) → All IsPackable list
     → is_before other key ≡ low → is_before key other ≡ high → same_key key other ≡ same
     → width_in (with_width key bits list) other

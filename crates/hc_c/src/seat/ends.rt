@@ -17,13 +17,13 @@ use hc_mail::sender::Sender;
 pub struct OwnerEnd {
     pub images: Sender<TaskImage>,
     pub posts: Receiver<TaskPost>,
-    /// Whether the core refused the post that was taken last.
+    /// True if the core refused the post that was taken last.
     pub is_refused: bool,
     ghost shows_images: { images.own.room ≡ image_room },
     ghost takes_posts: { posts.room ≡ post_room },
 }
 
-/// The means by which a task posts, with the post that it made last.
+/// The sender of a task's posts, with the post that it made last.
 #[derive(Drop)]
 pub struct TaskPosts {
     pub sender: Sender<TaskPost>,

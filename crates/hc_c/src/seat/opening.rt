@@ -46,7 +46,7 @@ pub fn open_images(
     Ok((sender, receiver))
 }
 
-/// Returns the means by which a task posts, and the owner's end of them. `AllocError` if an allocation fails.
+/// Returns the sender of a task's posts, and the owner's receiver of them. Fails with `AllocError` if an allocation fails.
 fn open_posts(alloc: Global) -> Result<(TaskPosts, Receiver<TaskPost>), AllocError>
     ensures { IfOk result (λ ends. AreEndsOfPosts ends.0 ends.1) }
 {

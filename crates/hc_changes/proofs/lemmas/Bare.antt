@@ -1,4 +1,5 @@
--- What no edit of the declared groups changes of a slave: its station address, and of each area all but its assigned PDOs and its task.
+-- The parts of a slave that no edit of the declared groups changes: its station address, and all of each area but its assigned
+-- PDOs and its task.
 use Rattle.std.proofs.Common.{◌≡◌, ℕ, ◌==◌, zero, suc, Bool, true, false, cond, List, [], ◌∷◌, refl, ap, rules}
 use Rattle.std.specs.Prelude.{map}
 use Rattle.std.proofs.lemmas.List.{map-append}

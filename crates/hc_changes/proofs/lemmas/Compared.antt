@@ -1,4 +1,4 @@
--- A block that an area has was one of the old line exactly where it is the one that had its number.
+-- A block of an area was one of the old line exactly if it is the one that had its number.
 use Rattle.std.proofs.Common.{◌≡◌, ℕ, ◌+◌, ◌*◌, ◌<◌, ◌==◌, Bool, true, false, cond, List, [], ◌∷◌, length, Contains, Option, Some, None, refl, sym, ap, subst, ◌∙◌, ⊎_elim, ◌⊎◌, arith, rules}
 use Rattle.std.specs.Prelude.{All, AllPairs, find, map, not, option_and_then, option_map, slice_get}
 use Rattle.std.specs.Option.{option_map_or}
@@ -29,7 +29,7 @@ use Rattle.hc_changes.proofs.lemmas.Moved.{moved-answer_given}
 use Rattle.hc_changes.proofs.lemmas.OneProject.{AreOfOneProject, at-own, edit-one-project, one-index, own-at}
 use Rattle.hc_changes.proofs.lemmas.Others.{IsAreaOf, AreAlike, area-is_placed, line-area, member-found}
 
--- the area of a line that is where another does
+-- the area of a line at the position of another area
 
 pub area-found : (line : List Member) (found was : LineArea) → AllPairs RanksBelow line → IsAreaOf line was → was.member.rank ≡ found.member.rank → was.index ≡ found.index → counterpart line found ≡ Some was
 area-found line found was ranks of rank index =
@@ -159,7 +159,7 @@ module _ (old new : List Member) (one : AreOfOneProject old new) (inside : All (
       let at = subst (λ (blocks : List LineBlock). Contains blocks other) (sym (blocks-of-areas old)) (contains-flat_map (line_area_blocks old) (line_areas old) was other (area-is_placed old was of) own) in
       list_any_at (same_block block) (line_blocks old) at.0 other at.1 (subst (λ (b : LineBlock). same_block block b ≡ true) (sym at.2) same)
 
-  -- where no area was, no block was one of the old line
+  -- if no area was there, no block was one of the old line
   none-any : (found : LineArea) (block : LineBlock) → AllPairs RanksBelow old → counterpart old found ≡ None
       → ((was : LineArea) → IsAreaOf old was → same_block block (first_block was) ≡ true → AreAlike was found)
       → ((was : LineArea) → IsAreaOf old was → same_block block (second_block old was) ≡ true → AreAlike was found)
@@ -170,7 +170,7 @@ module _ (old new : List Member) (one : AreOfOneProject old new) (inside : All (
       let there = area-found old found some.was ranks some.of alike.rank alike.index in
       cc
 
-  -- where one was, it is the one that was found
+  -- if an area was there, it is the one that was found
   alone : (found was other : LineArea) → AllPairs RanksBelow old → counterpart old found ≡ Some was → IsAreaOf old other → AreAlike other found → other ≡ was
   alone found was other ranks is of alike =
       let there = area-found old found other ranks of alike.rank alike.index in

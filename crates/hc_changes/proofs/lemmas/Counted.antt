@@ -1,4 +1,4 @@
--- How often a variable is among the rows of candidates, and among the areas that a line's slaves carried.
+-- The number of times that a variable is among the rows of candidates, and among the areas that a line's slaves carried.
 use Rattle.std.proofs.Common.{◌≡◌, ℕ, zero, suc, ◌+◌, ◌≤◌, ◌==◌, Bool, true, cond, List, [], ◌∷◌, Contains, Option, Some, None, length, refl, sym, ap, arith, if◌then◌else◌, rules}
 use Rattle.std.specs.Prelude.{All, filter, map, slice_index_or}
 use Rattle.std.specs.List.{flat_map}

@@ -1,4 +1,4 @@
--- The slaves that a change concerns are those where the lines before it and after it differ.
+-- The slaves that a change concerns are those in which the lines before it and after it differ.
 use Rattle.std.proofs.Common.{◌≡◌, ℕ, zero, suc, ◌+◌, ◌<◌, ◌≤◌, Bool, true, false, not, List, [], ◌∷◌, ◌++◌, Option, None, length, refl, sym, ap, ◌∙◌, arith, if◌then◌else◌, rules}
 use Rattle.std.specs.Prelude.{◌&&◌, IfNone, IfSome, Some, is_some, map, slice_index_or}
 use Rattle.std.proofs.lemmas.Bool.{le-ltb, lt-ltb}

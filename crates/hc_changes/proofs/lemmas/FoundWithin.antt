@@ -40,7 +40,7 @@ use Rattle.hc_changes.proofs.lemmas.Placing.{placed-below, placed-between}
 use Rattle.hc_changes.proofs.lemmas.Lists.{contains-after_it, contains-first}
 use Rattle.hc_changes.proofs.lemmas.Tables.{state_of}
 
--- where the task has no inputs, each of its areas is an output
+-- if the task has no inputs, each of its areas is an output
 
 no-input : (list : List Keyed) → has_inputs list ≡ false → All (λ (area : Keyed). same_dir area.0.dir In ≡ false) list
 no-input [] none = All-nil (λ (area : Keyed). same_dir area.0.dir In ≡ false)

@@ -1,4 +1,4 @@
--- Where no task needs more than 16 datagrams, each area of a project's line is in one of them.
+-- Each area of a project's line is in one of 16 datagrams, if no task needs more.
 use Rattle.std.proofs.Common.{◌≡◌, ℕ, ◌+◌, ◌≤◌, false, None, arith, rules}
 use Rattle.std.specs.Prelude.{All, filter, nat_lt}
 use Rattle.std.proofs.lemmas.Bool.{ltb-false}

@@ -1,4 +1,4 @@
--- What a list contains, what is found in it, and what a `flat_map` over it needs of its elements.
+-- The elements of a list, those that are found in it, and the conditions of a `flat_map` over it.
 use Rattle.std.proofs.Common.{◌≡◌, ℕ, ◌+◌, ◌<◌, zero, suc, Bool, true, false, cond, List, [], ◌∷◌, ◌++◌, Contains, append_assoc, drop, get_or, length, refl, sym, ap, subst, ◌∙◌, ⊎_elim, arith, rules}
 use Rattle.std.specs.Prelude.{All, AllPairs, Option, Some, filter, find, map}
 use Rattle.std.specs.List.{flat_map}
@@ -89,7 +89,7 @@ pub found-among : {X : Type 0} (test : X → Bool) (xs : List X) (x : X) → fin
 found-among test [] x is = cc
 found-among test (y ∷ ys) x is = found-by (test y) test x y ys refl is (found-among test ys x)
 
--- among elements where at most one passes, that one is found
+-- if at most one of the elements passes, that one is found
 
 here-or-later : {X : Type 0} (here : Bool) (x y : X) (rest : Option X) → (here ≡ true → ⊥) → rest ≡ Some x → cond here (Some y) rest ≡ Some x
 here-or-later here x y rest never later = search rules

@@ -52,7 +52,7 @@ none-twice found old new ranks of of' none (Some placed) is =
     let own : same_key here.0.key key ≡ true = subst (λ (k : Key). same_key here.0.key k ≡ true) same (same_key-refl here.0.key) in
     cc
 
--- an area that isn't recut is where it was
+-- an area that is not recut has the place that it had
 
 place-by : (found : LineArea) (old new : List Member) → AllPairs RanksBelow old → IsTaskList (task_list found.area.task old) → IsTaskList (task_list found.area.task new)
     → IsAreaOf old found → IsAreaOf new found → (place : Option Placed) → line_area_place new found ≡ place
@@ -90,7 +90,7 @@ stood-all : (found : LineArea) (old : List Member) → Contains (line_areas old)
     → All (λ block. not (list_any (same_block block) (line_blocks old)) ≡ false) (line_area_blocks old found)
 stood-all found old at = search (rules, All-weaker, not_from_true, had, blocks-of-areas, contains-flat_map, All-contains_itself)
 
--- an area that isn't a candidate was where it is
+-- an area that is not a candidate had the place that it has
 unchanged-are_placed : (changed : ℕ → Bool) (old new : State) → lowest_fault (groups_of old.groups) ≡ None → lowest_fault (groups_of new.groups) ≡ None → DifferAt changed (line old) (line new)
     → (found : LineArea) → Contains (line_areas (line new)) found → is_maybe_moved changed (line old) (line new) found ≡ false
     → IsAreaOf (line old) found × (line_area_place (line old) found ≡ line_area_place (line new) found)

@@ -1,4 +1,4 @@
--- In the table of a project's line the variables are where the line's areas are.
+-- The table of a project's line has the variables at the places of the line's areas.
 use Rattle.std.proofs.Common.{◌≡◌, ℕ, ◌<◌, ◌==◌, Bool, true, List, [], Contains, Option, Some, None, refl, sym, ap, subst, ◌∙◌, ⊎_elim, arith, rules}
 use Rattle.std.specs.Prelude.{All, filter, find, map, nat_lt, option_map, ◌&&◌}
 use Rattle.std.specs.List.{enumerate_from, flat_map, zip}

@@ -1,4 +1,4 @@
--- An area that is in a datagram which is kept up to it is where it was.
+-- An area in a datagram that is kept up to it has the place that it had.
 use Rattle.std.proofs.Common.{◌≡◌, ℕ, zero, suc, ◌+◌, ◌<◌, ◌≤◌, ◌==◌, true, List, [], ◌∷◌, ◌++◌, Contains, Some, length, refl, sym, subst, ◌∙◌, arith, rules}
 use Rattle.std.specs.Prelude.{All, AllPairs, IsTrue, filter, find, slice_get, slice_index_or}
 use Rattle.std.specs.List.{zip}
@@ -70,7 +70,7 @@ placed-below list placed is among =
     (subst (λ (areas : List Keyed). All (λ (area : Keyed). is_before area.0 END ≡ true) areas) (sym (packed-areas empty_front list)) is.between.below))
     among
 
--- where its datagram is kept up to it, it is where it was
+-- if its datagram is kept up to it, an area has the place that it had
 pub unchanged-place : (old new : List Keyed) (key : Key) (placed : Placed) → IsTaskList old → IsTaskList new
     → find (λ p. same_key p.key key) (packed empty_front new) ≡ Some placed → is_unchanged_up_to old new placed.datagram placed.key ≡ true
     → find (λ p. same_key p.key key) (packed empty_front old) ≡ Some placed

@@ -1,4 +1,4 @@
--- The slave of a line with a rank is the declared one with that rank, where it is present.
+-- The slave of a line with a rank is the declared one with that rank, if it is present.
 use Rattle.std.proofs.Common.{◌≡◌, ℕ, ◌+◌, ◌<◌, zero, suc, Bool, true, false, List, [], ◌∷◌, ◌++◌, Option, Some, None, length, refl, ap, ◌∙◌, arith, cond, if◌then◌else◌, rules}
 use Rattle.std.specs.Prelude.{All, find, map, option_map, slice_index_or}
 use Rattle.std.specs.List.{flat_map}

@@ -56,7 +56,7 @@ own-unchanged list datagram key is none low =
     ∙ and_from (is_settled list list (span.0, key)) (begins_at list datagram span.0) (own-settled list (span.0, key) datagram none found.2)
     (ap (λ (k : Option Key). option_map_or (same_key span.0) k false) found.2 ∙ same_key-refl span.0)
 
--- so an area of a task that no edit touched isn't recut
+-- an area of a task that no edit touched is not recut
 
 unrecut-by : (old new : List Keyed) (placed : Option Placed) → ((p : Placed) → placed ≡ Some p → is_unchanged_up_to old new p.datagram p.key ≡ true)
     → option_map_or (λ p. not (is_unchanged_up_to old new p.datagram p.key)) placed false ≡ false

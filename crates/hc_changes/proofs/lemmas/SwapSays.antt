@@ -1,4 +1,4 @@
--- What is said of an edit, its tasks' tables and its rows, is what differs between the tables before and after it.
+-- The tables and the rows of an edit are the differences between the tables before and after it.
 use Rattle.std.proofs.Common.{◌≡◌, List, sym, ap, subst, ◌∙◌, rules}
 use Rattle.std.proofs.lemmas.Bool.{and_parts, ltb-false, ltb-true, not-true}
 use Rattle.hc_records.specs.Line.{line_from}

@@ -52,7 +52,7 @@ unchanged-answer_given old new task datagram none none' low unchanged =
     datagram_use-answer_given old task datagram none low
     ∙ ap datagram_use_of (sym (unchanged-inside (task_list task (line_from 1 old)) (task_list task (line_from 1 new)) datagram (task-list old task none) (task-list new task none') unchanged))
 
--- where no key is touched, each has the same width in both lists, and so the lists are the same
+-- if no key is touched, each has the same width in both lists, and the lists are the same
 
 nothing-by : (passes : Bool) {X : Type 0} (x : X) (unchanged : List X) → cond passes (x ∷ unchanged) unchanged ≡ [] → (passes ≡ false) × (unchanged ≡ [])
 nothing-by passes x unchanged is = search rules

@@ -1,4 +1,4 @@
--- An area is in its task's list exactly where it has a width.
+-- An area is in its task's list exactly if it has a width.
 use Rattle.std.proofs.Common.{◌≡◌, ℕ, ◌==◌, ◌<◌, true, List, Contains, Option, Some, refl, sym, ap, subst, ◌∙◌, rules}
 use Rattle.std.specs.Prelude.{All, AllPairs, filter, find, nat_lt, ◌&&◌}
 use Rattle.std.specs.List.{enumerate_from}

@@ -18,13 +18,13 @@ use Rattle.hc_records.specs.TaskList.{task_list}
 use Rattle.hc_records.specs.Packing.{Placed}
 use Rattle.hc_records.specs.Keys.{is_within, is_before}
 
--- what is known of a line's tasks before they are turned, and the turned tasks
+-- the state of a line's tasks before they are turned, and the turned tasks
 pub record IsMaybeMovedTest (edited_line : EditedLine) (before : Before) (cuts : List TaskCuts) : Type 0 where
   pub is : IsEditedLine edited_line
   pub known : IsKnownBefore (areas_by_rank edited_line.old) (areas_by_rank edited_line.new) before
   pub applied : cuts ≡ line_cuts (areas_by_rank edited_line.new)
 
--- the areas of a task's datagram are where they were, up to a place in it
+-- the areas of a task's datagram have the same places as before, up to a place in it
 abbrev pub is_unchanged_at : EditedLine → ℕ → Placed → Bool
 is_unchanged_at edited_line task placed =
     is_unchanged_up_to (task_list task (line_from 1 edited_line.old)) (task_list task (line_from 1 edited_line.new)) placed.datagram placed.key
@@ -35,7 +35,8 @@ found_among edited_line areas =
     map (maybe_moved_of (line_from 1 edited_line.new))
     (filter (is_maybe_moved (changes edited_line.change) (line_from 1 edited_line.old) (line_from 1 edited_line.new)) areas)
 
--- an area by the station address and the rank of its slave, and by its index there; whether it is a candidate doesn't depend on the slave's other areas
+-- an area by the station address and the rank of its slave, and by its index there; the slave's other areas do not decide if it
+-- is a candidate
 abbrev pub area_by : ℕ → ℕ → ℕ → Area → LineArea
 area_by station rank index area = record {
   member = record { rank = rank; slave = record { station = station; areas = [] } };
@@ -43,7 +44,7 @@ area_by station rank index area = record {
   area = area;
 }
 
--- the candidate that such an area (`area_by`) is in the new line, with its place, as a list of one; an empty list where it is none
+-- the candidate for such an area (`area_by`) in the new line, with its place, as a list of one; an empty list if it is none
 abbrev pub area_found : EditedLine → ℕ → ℕ → ℕ → Area → List MaybeMoved
 area_found edited_line station rank index area = found_among edited_line (area_by station rank index area ∷ [])
 
@@ -57,7 +58,7 @@ areas_found edited_line station rank index (area ∷ areas) =
 abbrev pub declared_stations : List Declared → List ℕ
 declared_stations groups = flat_map (λ declared. map (λ slave. slave.station) declared.group.slaves) groups
 
--- the station address of the declared slave, present or not, with the rank, counted from 1; 0 where there is no such slave
+-- the station address of the declared slave, present or not, with the rank, counted from 1; 0 if there is no such slave
 abbrev pub ranked_station : List Declared → ℕ → ℕ
 ranked_station groups rank = slice_index_or (0 ∷ declared_stations groups) rank 0
 
@@ -81,7 +82,7 @@ pub record IsGroupAt (groups : List Declared) (first : ℕ) (declared : Declared
 abbrev pub LieWithin : EditedLine → ℕ → ℕ → Type 0
 LieWithin edited_line low high = (rank : ℕ) → (low ≤ rank → rank ≤ high → ⊥) → rank_found edited_line rank ≡ []
 
--- ranks from one up to another, with others among them
+-- the ranks from one up to another include others
 abbrev pub HoldRanks : ℕ → ℕ → ℕ → ℕ → Type 0
 HoldRanks low high own_low own_high = (low ≤ own_low) × (own_high ≤ high)
 
@@ -92,11 +93,12 @@ pub record LiesBetween (from to : Key) (inputs : Bool) (key : Key) : Type 0 wher
   pub from_on : is_within from key ≡ true
   pub before : is_before key to ≡ true
 
--- ranks from one up to another, with those of the slaves that the edit concerns
+-- the ranks from one up to another include those of the slaves that the edit concerns
 abbrev pub HoldChanged : EditedLine → ℕ → ℕ → Type 0
 HoldChanged edited_line low high = (rank : ℕ) → changes edited_line.change rank ≡ true → (low ≤ rank) × (rank ≤ high)
 
--- ranks from one up to another, with those of the slaves that have areas of a task in datagrams which weren't kept up to them
+-- the ranks from one up to another include those of the slaves that have areas of a task in datagrams that were not kept up to
+-- them
 abbrev pub HoldRecut : EditedLine → ℕ → ℕ → ℕ → Type 0
 HoldRecut edited_line task low high =
     (found : LineArea) → found.area.task ≡ task → found.member.rank < 65536

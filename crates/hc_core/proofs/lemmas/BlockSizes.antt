@@ -60,7 +60,7 @@ same-fault none spent room needed fits = search rules
 pub write-has-room : (history : History) → lowest (write_into_faults history 60) ≡ lowest (write_faults history (owed_blocks history))
 write-has-room history = same-fault _ _ (nat_lt 60 (write_size (owed_blocks history))) (write_size (owed_blocks history)) (le-ltb 60 (write_size (owed_blocks history)) (write-fits history))
 
--- so has each owed block
+-- each owed block has 1 to 16 bytes
 pub owed-bytes : (history : History) (index : ℕ) (block : LineBlock) → slice_get (owed_blocks history) index ≡ Some block → HasBlockBytes block.block
 owed-bytes history index block is =
     each-is Has (owed_blocks history) index block (All-filter (is_owed history) Has (line_blocks (line_of history)) (line_has (line_of history))) is

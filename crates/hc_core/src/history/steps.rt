@@ -1,4 +1,4 @@
-//! How the record grows.
+//! The entries that the record grows by.
 ghost use Rattle.std.specs.Prelude.{◌≡◌, ◌∷◌, map};
 ghost use Rattle.hc_events.specs.Accepted.{just_opened};
 ghost use Rattle.hc_events.specs.Arrivals.{arrival_in};
@@ -16,21 +16,21 @@ use hc_sendings::write_frames::WriteFrame;
 use std::snapshot::Snapshot;
 
 impl HistoryGhost {
-    /// The record of a project where nothing has happened.
+    /// Returns the record of a project in which nothing has happened.
     pub fn opened(project: &Project) -> HistoryGhost
         ensures { history_read result ≡ just_opened project.now }
     {
         HistoryGhost::Opened(Snapshot::of(project))
     }
 
-    /// With an edit after it.
+    /// Returns this record with an edit after it.
     pub fn edited(&self, edit: &Edit) -> HistoryGhost
         ensures { history_read result ≡ Edited edit.now ∷ history_read self.now }
     {
         HistoryGhost::Edited(Snapshot::of(self), Snapshot::of(edit))
     }
 
-    /// With a task's post after it.
+    /// Returns this record with a task's post after it.
     pub fn posted(&self, task: u8, bytes: &[u8]) -> HistoryGhost
         ensures { history_read result ≡ Posted task bytes.now ∷ history_read self.now }
     {
@@ -38,21 +38,21 @@ impl HistoryGhost {
         HistoryGhost::Posted(Snapshot::of(self), Snapshot::of(&task), Snapshot::of(&text))
     }
 
-    /// With a frame of tasks after it.
+    /// Returns this record with a frame of tasks after it.
     pub fn sent(&self, frame: &Sending) -> HistoryGhost
         ensures { history_read result ≡ Sent frame.now.datagrams ∷ history_read self.now }
     {
         HistoryGhost::Sent(Snapshot::of(self), Snapshot::of(frame))
     }
 
-    /// With a frame of register writes after it.
+    /// Returns this record with a frame of register writes after it.
     pub fn wrote(&self, frame: &WriteFrame) -> HistoryGhost
         ensures { history_read result ≡ Wrote (map block_of frame.now.blocks) ∷ history_read self.now }
     {
         HistoryGhost::Wrote(Snapshot::of(self), Snapshot::of(frame))
     }
 
-    /// With what arrived after it, if it can be read.
+    /// Returns this record with an arrival after it, if its bytes can be read.
     pub fn came(&self, bytes: &[u8]) -> HistoryGhost
         ensures { history_read result ≡ with_arrival (history_read self.now) (arrival_in bytes.now) }
     {
@@ -60,28 +60,28 @@ impl HistoryGhost {
         HistoryGhost::Came(Snapshot::of(self), Snapshot::of(&text))
     }
 
-    /// With a slave forgotten after it.
+    /// Returns this record with a forgotten slave after it.
     pub fn forgot(&self, station: u16) -> HistoryGhost
         ensures { history_read result ≡ Forgot station ∷ history_read self.now }
     {
         HistoryGhost::Forgot(Snapshot::of(self), Snapshot::of(&station))
     }
 
-    /// With a cleared slave after it.
+    /// Returns this record with a cleared slave after it.
     pub fn cleared(&self, station: u16) -> HistoryGhost
         ensures { history_read result ≡ Cleared station ∷ history_read self.now }
     {
         HistoryGhost::Cleared(Snapshot::of(self), Snapshot::of(&station))
     }
 
-    /// With an unplugged slave after it.
+    /// Returns this record with an unplugged slave after it.
     pub fn unplugged(&self, station: u16) -> HistoryGhost
         ensures { history_read result ≡ Unplugged station ∷ history_read self.now }
     {
         HistoryGhost::Unplugged(Snapshot::of(self), Snapshot::of(&station))
     }
 
-    /// Frames of tasks come after it, one after another.
+    /// Adds frames of tasks to this record, one after another.
     pub fn sent_all(&mut self, frames: &[Sending])
         ensures { history_read self.new ≡ with_sent (history_read self.old) frames.now }
     {

@@ -1,4 +1,4 @@
-//! How such bytes are taken from a slice.
+//! `text_of`: the text of a slice's bytes.
 ghost use Rattle.std.specs.Prelude.{◌≡◌};
 ghost use Rattle.hc_core.specs.Texts.{text_bytes};
 

@@ -1,4 +1,4 @@
--- What is kept by each accepted entry is kept by each event.
+-- A property that each accepted entry keeps is kept by each event.
 use Rattle.std.proofs.Common.{◌≡◌, ℕ, zero, suc, ◌+◌, ◌<◌, ◌≤◌, ◌==◌, nat_lt, Bool, true, false, cond, not, List, [], ◌∷◌, ◌++◌, length, map, take, refl, sym, ap, ◌∙◌, subst, arith, Option, Some, None, ltb-true, inl, inr}
 use Rattle.std.specs.Prelude.{◌⊎◌, All, Contains, is_none, is_some, option_map, Result, Ok, Err}
 use Rattle.std.specs.List.{flat_map, list_any, range_with_len}

@@ -1,4 +1,4 @@
--- What is awaited with a serial is all that arrivals with it can give.
+-- The sending that is awaited with a serial decides all that arrivals with this serial can be answered.
 use Rattle.std.proofs.Common.{◌≡◌, ℕ, Bool, true, false, cond, not, ◌&&◌, ◌||◌, ◌==◌, List, [], ◌∷◌, filter, refl, sym, ap, ◌∙◌, subst, arith, if◌then◌else◌, Option, Some, None}
 use Rattle.std.specs.Prelude.{map, option_map, option_and_then}
 use Rattle.std.specs.Option.{option_map_or}

@@ -1,4 +1,4 @@
--- What an arrival makes known of register blocks.
+-- The register blocks that an arrival makes known.
 use Rattle.std.proofs.Common.{◌≡◌, ℕ, ◌==◌, Bool, true, false, cond, ◌&&◌, ◌||◌, List, [], ◌∷◌, map, refl, sym, ap, ◌∙◌, Option, Some, None, subst}
 use Rattle.std.specs.Prelude.{is_some, option_and_then, option_map, All}
 use Rattle.std.specs.Option.{option_map_or, option_or}

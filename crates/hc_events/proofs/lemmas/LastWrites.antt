@@ -1,4 +1,4 @@
--- Where the last write of a block is in a record, and what an answer to a frame of tasks leaves known.
+-- The place of a block's last write in a record, and the known blocks after an answer to a frame of tasks.
 use Rattle.std.proofs.Common.{◌≡◌, ℕ, ◌==◌, true, false, cond, ◌||◌, List, [], ◌∷◌, ◌++◌, refl, sym, ap, ◌∙◌, Option, Some, None, rules}
 use Rattle.std.specs.Prelude.{option_and_then, option_map}
 use Rattle.std.specs.Option.{option_or}

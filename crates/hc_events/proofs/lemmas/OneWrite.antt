@@ -1,4 +1,4 @@
--- What is awaited after an entry was awaited before it; what is owed after an arrival was owed before it.
+-- A sending that is awaited after an entry was awaited before it. A block that is owed after an arrival was owed before it.
 use Rattle.std.proofs.Common.{◌≡◌, ℕ, ◌==◌, Bool, true, false, cond, not, ◌&&◌, List, [], ◌∷◌, filter, refl, sym, ap, ◌∙◌, Option, Some, None}
 use Rattle.std.specs.Prelude.{is_some, option_map, option_and_then}
 use Rattle.std.specs.Option.{option_map_or}

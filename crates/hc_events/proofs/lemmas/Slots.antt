@@ -1,4 +1,5 @@
--- What is read of a datagram has its length, and whatever its sending had of the line, since no edit came between.
+-- The data that are read of a datagram have its length, and any property that its sending had in the line, since no edit came
+-- between.
 use Rattle.std.proofs.Common.{◌≡◌, ℕ, ◌==◌, Bool, true, false, cond, ◌&&◌, List, [], ◌∷◌, length, map, refl, sym, ap, ◌∙◌, subst, Option, Some, None}
 use Rattle.std.specs.Prelude.{All, fold, option_map, option_and_then}
 use Rattle.std.specs.Option.{option_map_or}

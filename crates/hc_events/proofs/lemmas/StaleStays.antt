@@ -1,4 +1,4 @@
--- What is over stays over: an arrival that is stale once its sending was made is stale for good.
+-- An arrival that is stale once its sending was made is stale for good.
 use Rattle.std.proofs.Common.{◌≡◌, ℕ, ◌<◌, true, false, cond, not, List, ◌∷◌, refl, sym, ap, ◌∙◌, subst, Option, Some, None}
 use Rattle.std.specs.Prelude.{option_map, option_and_then}
 use Rattle.std.specs.List.{list_any}

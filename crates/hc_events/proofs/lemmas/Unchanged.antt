@@ -1,4 +1,4 @@
--- What the test of a changed task says: the tables, the places and the blocks of an unchanged one are the same.
+-- The test of a changed task: the tables, the places and the blocks of an unchanged task are the same.
 use Rattle.std.proofs.Common.{◌≡◌, ℕ, suc, ◌+◌, ◌<◌, ◌≤◌, ◌==◌, ◌&&◌, ◌||◌, nat_lt, not, ◌∙◌, Bool, true, false, cond, List, [], ◌∷◌, ◌++◌, filter, length, map, refl, sym, ap, ap₂, subst, arith, Option, Some, None}
 use Rattle.std.specs.Prelude.{◌/◌, All, find, is_some, option_and_then, option_map, slice_get, slice_index_or}
 use Rattle.std.specs.Str.{bytes_eq}

@@ -1,4 +1,4 @@
--- What a record says is what it says without its stale arrivals.
+-- A record says the same without its stale arrivals.
 use Rattle.std.proofs.Common.{◌≡◌, ℕ, ◌+◌, ◌==◌, Bool, true, false, cond, not, ◌&&◌, ◌||◌, List, [], ◌∷◌, ◌++◌, map, refl, sym, ap, ◌∙◌, Option, Some, None}
 use Rattle.std.specs.Prelude.{fold, is_some, option_and_then, option_map}
 use Rattle.std.specs.List.{flat_map, list_any}

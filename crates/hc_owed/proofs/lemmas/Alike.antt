@@ -1,4 +1,4 @@
--- What is kept of the areas depends on registers by what is unknown, and by the tasks that their contents name.
+-- The state of the areas depends on the registers only by which are unknown, and by the tasks that their contents name.
 use Rattle.std.proofs.Common.{◌≡◌, ℕ, ◌+◌, ◌*◌, ◌&&◌, not, Bool, false, List, [], ◌∷◌, length, map, refl, ap, ap₂, ◌∙◌, Option, Some, None}
 use Rattle.std.specs.Prelude.{is_some}
 use Rattle.std.specs.Option.{option_map_or}

@@ -1,4 +1,4 @@
--- What the datagrams of a task hold, and its table put together from that.
+-- The use of a task's datagrams by its areas, and the task's table put together from these uses.
 use Rattle.std.proofs.Common.{◌≡◌, ◌∙◌, ap, ℕ, zero, suc, ◌+◌, ◌-◌, ◌*◌, ◌/◌, ◌<◌, ◌≤◌, Bool, true, false, cond, List, [], ◌∷◌, ◌++◌, length, refl, sym, arith}
 use Rattle.std.specs.Prelude.{All, Option, Some, None, find, map, min, nat_lt, option_map, slice_get, ◌==◌}
 use Rattle.std.specs.Option.{option_map_or}

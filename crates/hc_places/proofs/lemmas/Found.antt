@@ -1,4 +1,4 @@
--- What `find` finds.
+-- The element that `find` finds.
 use Rattle.std.proofs.Common.{◌≡◌, ◌∙◌, Bool, true, false, cond, List, [], ◌∷◌, ap, refl, subst, sym}
 use Rattle.std.specs.Prelude.{All, Option, Some, find}
 use Rattle.std.proofs.lemmas.List.Elements.{All-head, All-tail}

@@ -37,7 +37,7 @@ unfolding first
 find-first test [] = refl
 find-first test (x ∷ xs) = first-by (test x) x (find test xs) (filter test xs) (find-first test xs)
 
--- so two lists that keep the same elements have the same first one
+-- two lists that keep the same elements have the same first one
 pub find-unchanged : {X : Type 0} (test : X → Bool) (xs ys : List X) → filter test xs ≡ filter test ys → find test xs ≡ find test ys
 find-unchanged test xs ys same = find-first test xs ∙ ap first same ∙ sym (find-first test ys)
 

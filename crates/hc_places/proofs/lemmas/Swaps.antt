@@ -1,4 +1,4 @@
--- Where a swap leads: what the laws of swaps say, for the proofs of the crates above.
+-- The laws of swaps, for the proofs of the crates above.
 use Rattle.hc_places.specs.Swap.{SwapsKeepTheOrder, SwapsMoveTheirVariables, SwapsReplaceTheirTasks}
 use Rattle.hc_places.proofs.Leading.{task-replaced}
 use Rattle.hc_places.proofs.Swapped.{merged-rows-ascend, place-merged}

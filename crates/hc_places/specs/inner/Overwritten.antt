@@ -1,4 +1,4 @@
--- Rows that are counted, and overwritten where they are.
+-- Rows that are counted, and overwritten in place.
 use Rattle.std.specs.Prelude.{◌==◌, ℕ, ◌-◌, ◌<◌, ◌≤◌, get_or, length, List, [], ◌∷◌, false, if◌then◌else◌, map, nat_lt, true, ◌≡◌, unwrap_or}
 use Rattle.std.specs.List.Sorted.{IsPartitionPoint}
 use Rattle.hc_places.specs.Swap.{ChangedRow}
@@ -20,7 +20,7 @@ NextIsNotLower rows variable count = (d : VariableRow) → count < length rows �
 abbrev pub row_with : ChangedRow → VariableRow → VariableRow
 row_with changed row = if row.0 == changed.0 then (row.0, unwrap_or changed.1 row.1) else row
 
--- rows that are overwritten where they are; none comes or goes
+-- rows that are overwritten in place; none is added or removed
 abbrev pub rows_overwritten : List ChangedRow → List VariableRow → List VariableRow
 rows_overwritten [] rows = rows
 rows_overwritten (changed ∷ others) rows = rows_overwritten others (map (row_with changed) rows)

@@ -1,4 +1,4 @@
--- What is worked out from the places of a task's areas.
+-- The rows and datagrams that follow from the places of a task's areas.
 use Rattle.std.specs.Prelude.{ℕ, ◌<◌, ◌≤◌, All, List}
 use Rattle.hc_records.specs.declared.limits.TheConstants.{MOST_DATAGRAMS}
 use Rattle.hc_records.specs.declared.records.Dir.{Dir}

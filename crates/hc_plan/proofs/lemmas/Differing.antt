@@ -1,4 +1,4 @@
--- How the lines before and after an accepted edit differ, place by place.
+-- The differences between the lines before and after an accepted edit, place by place.
 use Rattle.std.proofs.Common.{◌≡◌, ℕ, zero, suc, ◌+◌, ◌*◌, ◌/◌, ◌%◌, ◌<◌, ◌≤◌, Bool, true, false, cond, Contains, List, [], ◌∷◌, ◌++◌, length, map, ◌⊎◌, inl, inr, refl, sym, ap, subst, ◌∙◌, arith, length-append, rules}
 use Rattle.std.specs.Prelude.{◌≢◌, All, None, Some, Ok, not, option_map, slice_get, slice_index_or}
 use Rattle.std.specs.List.{enumerate_from, flat_map, list_any}

@@ -86,7 +86,7 @@ contains-order R xs x y pairs has has' =
       | inr (inr higher) ↦ inr (inr (subst (λ u. R u x) (b.2 x) (subst (λ v. R (slice_index_or xs b.0 x) v) (a.2 x) (pairs b.0 a.0 x higher a.1))))
     ]
 
--- elements of pieces are related throughout where those of one piece are, and those of two
+-- elements of pieces are related throughout if those of one piece are, and those of two
 pub AllPairs-joined : {X Y : Type 0} (R : Y → Y → Type 0) (f : X → List Y) (xs : List X) → All (λ x. AllPairs R (f x)) xs
     → AllPairs (λ x y. All (λ a. All (R a) (f y)) (f x)) xs → AllPairs R (flat_map f xs)
 AllPairs-joined R f [] each across = AllPairs-nil R

@@ -91,7 +91,7 @@ one-project : (old new : State) (edit : Edit) → lowest_fault (groups_of old.gr
 one-project old new edit project accepted =
     subst (λ (g : List Declared). AreOfOneProject (line old) (line_from 1 g)) (sym (accepted-groups old new edit accepted)) (edit-one-project old.groups edit project)
 
--- the declared slaves keep their station addresses, and where no group is declared none comes after them
+-- the declared slaves keep their station addresses, and none comes after them if no group is declared
 pub same-stations : (old new : State) (edit : Edit) → declares edit ≡ false → edited old edit ≡ Ok new → stations old ≡ stations new
 same-stations old new edit changes accepted =
     bare-stations (declared_slaves old.groups)
@@ -113,7 +113,7 @@ more-stations old new (Move station area task) accepted = unmore old new (Move s
 more-stations old new (Declare group) accepted =
     (map (λ slave. slave.station) group.slaves, ap stations (accepted-state old new (Declare group) accepted) ∙ declared-stations old group)
 
--- so a place keeps its name
+-- a place keeps its name
 pub same-name : (old new : State) (edit : Edit) (n : ℕ) (before block : LineBlock) → edited old edit ≡ Ok new
     → slice_get (places old) n ≡ Some (Some before) → slice_get (places new) n ≡ Some (Some block) → (before.station ≡ block.station) × (before.number ≡ block.number)
 same-name old new edit n before block accepted stood at =

@@ -1,4 +1,4 @@
--- What is at the places of a line's blocks: by rank and number, and after an edit.
+-- The blocks at the places of a line: by rank and number, and after an edit.
 use Rattle.std.proofs.Common.{◌≡◌, Bool, ℕ, zero, suc, ◌+◌, ◌-◌, ◌*◌, ◌/◌, ◌%◌, ◌==◌, ◌<◌, true, false, cond, Contains, List, [], ◌∷◌, length, map, ◌⊎◌, inl, inr, refl, sym, ap, ◌∙◌, arith}
 use Rattle.std.specs.Prelude.{◌≢◌, All, None, Option, Some, find, option_and_then, option_map, slice_get, slice_index_or}
 use Rattle.std.proofs.lemmas.Bool.{eq-eqb, eqb-false, eqb-true}
@@ -73,7 +73,7 @@ ranked-place state n low = by (find (λ (m : Member). m.rank == n / 16 + 1) (lin
             let rank : here.member.rank ≡ n / 16 + 1 = omega (arith, place, number, from) in
             absurd (not-found (λ (m : Member). m.rank == n / 16 + 1) (line state) here.member is (eq-eqb here.member.rank (n / 16 + 1) rank) here.on)
 
--- the stored block at a place where the line has one
+-- the stored block at a place, if the line has one there
 pub has-block : (state : State) (n : ℕ) (block : LineBlock) → slice_get (places state) n ≡ Some (Some block) → has_at (blocks_by_rank state.groups) n ≡ Some block.block
 has-block state n block at = ap (option_and_then (λ (b : Option RegisterBlock). b)) (slice_get-map block_in (places state) n ∙ ap (option_map block_in) at)
 

@@ -24,7 +24,7 @@ pub record IsWritable (index : ℕ) (area : Area) (place : Option Placed) : Type
   pub bits : placed_bits place ≡ width area
   pub some : ForSome place (λ placed. 0 < placed.bits)
 
--- where an area is mapped, by its place
+-- the mapping of an area, by its place
 abbrev pub mapping_by : Area → Option Placed → Option Mapping
 mapping_by area place = option_map (mapping_at area.task) place
 
@@ -32,11 +32,12 @@ mapping_by area place = option_map (mapping_at area.task) place
 abbrev pub two_blocks : ℕ → Area → Option Placed → RegisterBlock × RegisterBlock
 two_blocks index area place = (sync_manager_block area, fmmu_block index area (mapping_by area place))
 
--- where a layout maps the area at an index of a slave with a rank
+-- the mapping of the area at an index of a slave with a rank, by a layout
 abbrev pub mapping_in : List (List Placed) → ℕ → ℕ → Area → Option Mapping
 mapping_in layout rank index area = mapping_by area (placed_in layout area.task (record { dir = area.dir; rank = rank; area = index }))
 
--- the FMMU block of an area, which comes with its index, of a slave with a rank, by its place in a layout; with 16 bytes of 0 where it has none
+-- the FMMU block of an area, which comes with its index, of a slave with a rank, by its place in a layout; 16 bytes of 0 if it
+-- has none
 abbrev pub fmmu_block_in : List (List Placed) → ℕ → ℕ × Area → RegisterBlock
 fmmu_block_in layout rank e = fmmu_block e.0 e.1 (mapping_in layout rank e.0 e.1)
 
@@ -52,7 +53,7 @@ area_block_in layout rank number e = if number % 2 == 0 then sync_manager_block 
 abbrev pub slave_blocks_in : List (List Placed) → Member → List RegisterBlock
 slave_blocks_in layout member = flat_map (area_blocks_in layout member.rank) (enumerate_from 0 member.slave.areas)
 
--- a layout of the line of a project's groups, where no task is over its limit
+-- a layout of the line of a project's groups, in which no task is over its limit
 pub record IsLayoutOf (groups : List Declared) (layout : List (List Placed)) : Type 0 where
   pub project : lowest_fault (groups_of groups) ≡ None
   pub uncrowded : over_limit_task (line_from 1 groups) ≡ None

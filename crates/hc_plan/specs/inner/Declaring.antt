@@ -1,4 +1,4 @@
--- What declaring a group after those of a plan takes.
+-- The conditions and the memory for declaring a group after those of a plan.
 use Rattle.std.specs.Prelude.{◌≡◌, ℕ, ◌+◌, ◌*◌, ◌==◌, ◌≤◌, nat_lt, Bool, false, List, [], ◌∷◌, None, Option, Some, length}
 use Rattle.std.specs.List.{list_any}
 use Rattle.std.specs.Option.{option_map_or}
@@ -33,11 +33,11 @@ use Rattle.hc_plan.specs.Reports.{ReportsEdit}
 abbrev pub names_taken : List Declared → Entry → Bool
 names_taken groups entry = option_map_or (is_declared_variable groups) entry.0 false
 
--- an entry of a PDO names such a variable
+-- an entry of a PDO names a variable that is declared already
 abbrev pub pdos_take : List Declared → List Pdo → Bool
 pdos_take groups pdos = list_any (λ pdo. list_any (names_taken groups) pdo.entries) pdos
 
--- an entry of a PDO that an area offers does
+-- an area offers a PDO with an entry that names a variable that is declared already
 abbrev pub areas_take : List Declared → List Area → Bool
 areas_take groups areas = list_any (λ area. pdos_take groups area.offered) areas
 
@@ -49,7 +49,7 @@ taken_faults groups group =
     ∷ (list_any (is_declared_variable groups) (slave_names group.slaves), VariableTaken)
     ∷ []
 
--- the faults by the limits, where so many groups and slaves are declared already
+-- the faults by the limits, if so many groups and slaves are declared already
 abbrev pub limit_faults : ℕ → ℕ → Group → List (Bool × EditFault)
 limit_faults groups slaves group =
     (nat_lt MOST_GROUPS (groups + 1), TooManyGroups) ∷ (nat_lt MOST_SLAVES (slaves + length group.slaves), TooManySlaves) ∷ []

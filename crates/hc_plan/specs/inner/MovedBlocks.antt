@@ -21,7 +21,7 @@ block_with candidate number block = ranked candidate.rank (record { station = ca
 abbrev pub is_stored : List (Option RegisterBlock) → RankedBlock → Bool
 is_stored stored block = option_map_or (same_bytes block.found.block) (has_at stored (block_place block)) false
 
--- a block of the new line moved if the old line's has other bytes, another register, or isn't there
+-- a block of the new line moved if the old line's has other bytes or another register, or is not there
 abbrev pub is_moved : List (Option RegisterBlock) → RankedBlock → Bool
 is_moved stored block = not (is_stored stored block)
 

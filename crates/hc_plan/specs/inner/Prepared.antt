@@ -1,4 +1,4 @@
--- What a prepared edit keeps, so that carrying it out takes no memory and can't be refused.
+-- The content of a prepared edit, so that carrying it out allocates nothing and cannot fail.
 use Rattle.std.specs.Prelude.{◌≡◌, ℕ, ◌+◌, false, [], ◌∷◌, ◌++◌, List, None, Some, find, slice_get}
 use Rattle.hc_records.specs.declared.edit.Edit.{Edit}
 use Rattle.hc_records.specs.declared.edit.Edit.TheVariants.{Connect, Disconnect, Remap, Move, Declare}
@@ -30,19 +30,19 @@ use Rattle.hc_plan.specs.Prepared.{IsPrepared, PreparedEdit}
 abbrev pub HasNoBits : ℕ → List Area → Type 0
 HasNoBits index areas = (area : Area) → slice_get areas index ≡ Some area → width area ≡ 0
 
--- the declared groups that an edit leaves, by what was worked out of it
+-- the declared groups that an edit leaves, by its work
 abbrev pub groups_left_by : Work → List Declared → List Declared
 groups_left_by (NewLine work) groups = changed_groups work.change groups
 groups_left_by (NewTask change) groups = changed_groups change groups
 groups_left_by (NewGroup declaration) groups = groups ++ absent declaration.group ∷ []
 
--- the slaves that leave the line with it
+-- the slaves that leave the line with an edit, by its work
 abbrev pub gone_by : Work → Gone
 gone_by (NewLine work) = gone_of work.change
 gone_by (NewTask change) = gone_of change
 gone_by (NewGroup declaration) = none_gone
 
--- what is worked out of an edit of a state, with its report and the blocks that it moves
+-- the prepared edit of a state, from its work, its report and the blocks that it moves
 abbrev pub prepared_of : State → Work → Report → List RankedBlock → PreparedEdit
 prepared_of old work report blocks = record {
   old = old;
@@ -58,7 +58,7 @@ pub record AreConfiguredAlike (old new : List Declared) : Type 0 where
   pub cuts : line_cuts (areas_by_rank new) ≡ line_cuts (areas_by_rank old)
   pub crowds : over_limit_task (line_from 1 new) ≡ over_limit_task (line_from 1 old)
 
--- the edit moves an area without bits of a slave of the line
+-- the edit moves an area of a slave of the line, and this area has no bits or does not exist
 abbrev pub MovesNoBits : List Declared → Edit → Type 0
 MovesNoBits groups (Connect alias) = ⊥
 MovesNoBits groups (Disconnect alias) = ⊥
@@ -84,13 +84,13 @@ pub record IsTaskReady (old : State) (report : Report) (change : Prepared) : Typ
   pub project : lowest_fault (groups_of (changed_groups change old.groups)) ≡ None
   pub same : AreConfiguredAlike old.groups (changed_groups change old.groups)
 
--- what was worked out can be carried out in the state that it was worked out in
+-- the work can be carried out in the state that it was worked out in
 abbrev pub IsWorkReady : State → Report → Work → Type 0
 IsWorkReady old report (NewLine work) = IsLineReady old report work
 IsWorkReady old report (NewTask change) = IsTaskReady old report change
 IsWorkReady old report (NewGroup declaration) = CanDeclare old.groups declaration
 
--- so it is, and a prepared edit gives it with the blocks that it moves
+-- the work can be carried out, and with this report and these moved blocks it makes a prepared edit
 pub record CanCarry (old : State) (report : Report) (work : Work) (blocks : List RankedBlock) : Type 0 where
   pub ready : IsWorkReady old report work
   pub prepared : IsPrepared (prepared_of old work report blocks)

@@ -11,7 +11,7 @@ use Rattle.hc_plan.specs.RegisterBlocks.{block_in}
 abbrev pub with_moved : RankedBlock → List (Option RegisterBlock) → List (Option RegisterBlock)
 with_moved moved blocks = changed_at (block_place moved) (λ _. Some moved.found.block) blocks
 
--- so it is with moved blocks, one after another
+-- the stored blocks with moved blocks, one after another
 abbrev pub with_all_moved : List RankedBlock → List (Option RegisterBlock) → List (Option RegisterBlock)
 with_all_moved [] blocks = blocks
 with_all_moved (moved ∷ rest) blocks = with_all_moved rest (with_moved moved blocks)

@@ -1,4 +1,4 @@
--- What a slave adds to the working counter of a datagram, by the places that a layout has for its areas.
+-- The share of a slave in the working counter of a datagram, by the places that a layout has for its areas.
 use Rattle.std.specs.Prelude.{ℕ, ◌+◌, ◌==◌, ◌&&◌, if◌then◌else◌, Bool, false, List}
 use Rattle.std.specs.Option.{option_map_or}
 use Rattle.std.specs.List.{enumerate_from, list_any}
@@ -19,7 +19,7 @@ abbrev pub is_area_in : List (List Placed) → ℕ × ℕ → Dir → ℕ → �
 is_area_in layout named dir rank e =
     (e.1.task == named.0) && same_dir e.1.dir dir && area_lies_in layout named (record { dir = dir; rank = rank; area = e.0 })
 
--- what a slave with a rank and these areas adds to the counter of a datagram
+-- the number that a slave with a rank and these areas adds to the counter of a datagram
 abbrev pub share_in : List (List Placed) → ℕ × ℕ → ℕ → List Area → ℕ
 share_in layout named rank areas =
     (if list_any (is_area_in layout named Out rank) (enumerate_from 0 areas) then 2 else 0)

@@ -1,4 +1,4 @@
--- What is found in a list, and what holds of each of the eight tasks.
+-- Properties of an element that is found in a list, and of each of the eight tasks.
 use Rattle.std.proofs.Common.{◌≡◌, ◌≢◌, ℕ, ◌<◌, ◌⊎◌, zero, suc, Bool, true, false, List, [], ◌∷◌, Option, Some, None, refl, sym, ◌∙◌, arith, if◌then◌else◌}
 use Rattle.std.specs.Prelude.{All, AllPairs, find, option_map, ◌==◌}
 use Rattle.std.specs.List.{enumerate_from}

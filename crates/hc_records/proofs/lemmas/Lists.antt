@@ -1,4 +1,4 @@
--- What holds of the elements, or of each element and each later one, of lists that are joined, mapped, numbered or taken apart.
+-- Properties of the elements, or of each element and each later one, of lists that are joined, mapped, numbered or taken apart.
 use Rattle.std.proofs.Common.{◌≡◌, ℕ, ◌+◌, ◌<◌, ◌≤◌, zero, suc, ◌-◌, ◌∙◌, Bool, true, false, cond, List, [], ◌∷◌, ◌++◌, length, ap, arith, refl, sym, if◌then◌else◌}
 use Rattle.std.specs.Prelude.{All, AllPairs, None, Some, filter, map, slice_get, ◌==◌, ◌≢◌}
 use Rattle.std.specs.List.{enumerate_from, flat_map, list_any}

@@ -1,4 +1,4 @@
--- What single conditions of a project's faults say of its groups; all of them together are in Limits.
+-- Single conditions of a project's faults, for its groups; all of them together are in Limits.
 pub use Rattle.hc_records.proofs.lemmas.Lists.{none-holds}
 use Rattle.std.proofs.Common.{◌≡◌, ◌≤◌, false, List, None, length, arith}
 use Rattle.hc_records.specs.declared.limits.TheConstants.{MOST_SLAVES}

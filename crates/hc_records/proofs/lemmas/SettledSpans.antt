@@ -1,4 +1,4 @@
--- What a settled span carries: what it carried before the edit.
+-- A settled span carries what it carried before the edit.
 use Rattle.std.proofs.Common.{◌≡◌, ◌⊎◌, inl, inr, zero, suc, Bool, true, false, List, [], ◌∷◌, ◌++◌, Option, Some, None, refl, sym, ap, subst, ◌∙◌, arith, if◌then◌else◌}
 use Rattle.std.specs.Prelude.{All, Contains, filter, fold, map, not, ◌||◌, ◌==◌}
 use Rattle.std.specs.List.{list_any}

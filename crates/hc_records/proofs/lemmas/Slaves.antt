@@ -1,4 +1,4 @@
--- What a project's limits say of the slaves of its line.
+-- The limits of a project, for the slaves of its line.
 pub use Rattle.hc_records.specs.Limits.{IsAreaInside, IsSlaveInside}
 use Rattle.std.proofs.Common.{◌≡◌, ℕ, ◌+◌, List, [], ◌∷◌, length, refl, sym, ap, ◌∙◌, arith, length-append}
 use Rattle.std.specs.Prelude.{All, AllPairs, None, map, sum_by, ◌≢◌}

@@ -1,4 +1,4 @@
--- Where the places of a line's variables lie, and that they share no bit.
+-- The places of a line's variables, which share no bit.
 use Rattle.std.proofs.Common.{◌≡◌, ◌≢◌, ℕ, ◌+◌, ◌<◌, ◌≤◌, ◌⊎◌, inl, inr, List, Some, get_or, refl, sym, arith}
 use Rattle.std.specs.Prelude.{All, AllPairs, find, ◌==◌}
 use Rattle.std.specs.List.{flat_map}

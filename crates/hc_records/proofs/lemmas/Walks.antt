@@ -1,4 +1,4 @@
--- How many slaves a line has.
+-- The number of slaves of a line.
 pub use Rattle.hc_records.proofs.lemmas.Lists.{get-back, get-front}
 use Rattle.std.proofs.Common.{◌≡◌, ℕ, suc, ◌+◌, ◌≤◌, Bool, true, false, List, [], ◌∷◌, length, refl, ap, arith, length-append, if◌then◌else◌}
 use Rattle.std.specs.Prelude.{sum_by}

@@ -11,7 +11,7 @@ pub trait Condition<T> {
     /// The tested record.
     ghost condition: { T → Bool };
 
-    /// Whether an item meets the condition.
+    /// True if an item meets the condition.
     fn holds(item: &T) -> bool
         ensures { result ≡ condition item.now };
 }
@@ -21,7 +21,7 @@ pub trait Relation<T> {
     /// The tested record.
     ghost relation: { T → T → Bool };
 
-    /// Whether an earlier item is related to a later one.
+    /// True if an earlier item is related to a later one.
     fn holds(earlier: &T, later: &T) -> bool
         ensures { result ≡ relation earlier.now later.now };
 }

@@ -1,4 +1,4 @@
--- What the slaves of a datagram add to its working counter is what its areas add in their order.
+-- The numbers that the slaves of a datagram add to its working counter sum up to those that its areas add in their order.
 use Rattle.std.proofs.Common.{◌≡◌, ℕ, suc, zero, ◌+◌, ◌<◌, Bool, true, false, List, [], ◌∷◌, refl, sym, ap, ◌∙◌, arith}
 use Rattle.std.specs.Prelude.{All, AllPairs, Contains, IsTrue, Some, None, slice_index_or, sum_by, ◌==◌, ◌&&◌, ◌||◌, if◌then◌else◌}
 use Rattle.std.specs.List.{list_any}
@@ -15,7 +15,7 @@ use Rattle.hc_records.specs.Image.{counter_share, area_is_of}
 use Rattle.hc_records.proofs.lemmas.Lists.{AllPairs-head, AllPairs-tail}
 use Rattle.hc_registers.specs.Counting.{weight, counted_from}
 
--- what the area with a key adds, before the areas of other keys: nothing where one of them is of its slave and direction
+-- the number that the area with a key adds before the areas of other keys: 0 if one of them is of its slave and direction
 abbrev share_before : Key → List Key → ℕ
 share_before key keys = if list_any (area_is_of key.rank key.dir) keys then 0 else weight key.dir
 
@@ -146,7 +146,7 @@ counted-back before (key ∷ keys) ascend =
     (none-later before key keys ascend)
     (counted-back key keys (AllPairs-tail Precedes before (key ∷ keys) ascend))
 
--- where keys ascend, and so do ranks that have each key's, the shares of these ranks are what the areas add in their order
+-- if keys ascend, and so do ranks that have each key's, the shares of these ranks sum up to what the areas add in their order
 pub ascending-counted : (keys : List Key) (ranks : List ℕ) → AllPairs (λ a b. IsTrue (is_before a b)) keys → AllPairs (λ a b. a < b) ranks
     → All (λ key. Contains ranks key.rank) keys → sum_by (counter_share keys) ranks ≡ counted_from None keys
 ascending-counted [] ranks ascend ranked among = sum-counted_back [] ranks ranked among

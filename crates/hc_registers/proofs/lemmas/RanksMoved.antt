@@ -32,4 +32,4 @@ ranked-are-moved old new =
     let test : LineBlock → Bool = λ block. not (list_any (same_block block) (line_blocks old)) in
     filter-founds test (ranked_blocks new) ∙ ap (filter test) (ranked-are-blocks new)
 
--- each block of a line is one of its blocks, so none has moved where the line is the same
+-- each block of a line is one of its blocks, so that none has moved if the line is the same

@@ -1,4 +1,4 @@
--- What is at a place: a slave's block by its number, and whose block is in a place.
+-- The block at a place: a slave's block by its number, and the slave of a place.
 use Rattle.std.proofs.Common.{◌≡◌, ℕ, zero, suc, ◌+◌, ◌-◌, ◌*◌, ◌<◌, ◌≤◌, Bool, true, false, cond, Contains, List, [], ◌∷◌, ◌++◌, length, ◌⊎◌, inl, inr, refl, sym, ap, ◌∙◌, arith, length-append, rules}
 use Rattle.std.specs.Prelude.{All, Some, Option, slice_get}
 use Rattle.std.specs.List.{flat_map}

@@ -1,4 +1,4 @@
--- What a sender that holds a buffer of zeros ends as, once the bytes that were lent of it were left.
+-- The final state of a sender that holds a buffer of zeros, once the loan of the buffer's bytes is over.
 use Rattle.std.proofs.Common.{◌≡◌, ℕ, List, Bool, true, false, not, T, replicate, refl, sym, ap, ◌∙◌, subst, true≢false}
 use seplogic.Ra.Ura.{Ura}
 use base.Fml.{GName}

@@ -1,4 +1,4 @@
--- What a `Result` owns, from what its one field owns.
+-- The ownership of a `Result`, from that of its one field.
 use Rattle.std.proofs.Common.{List, [], ◌∷◌, refl}
 use Rattle.std.specs.declared.result.Result.TheVariants.{Ok, Err}
 use Rattle.std.specs.contracts.result.Result as result

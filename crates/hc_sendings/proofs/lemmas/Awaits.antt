@@ -1,4 +1,5 @@
--- What is kept as awaited stays what the record awaits: at the opening, after edits, stale arrivals, posts, register writes and forgotten slaves.
+-- The stored frames and writes stay those that the record awaits: at the opening, and after edits, stale arrivals, posts,
+-- register writes and forgotten slaves.
 use Rattle.std.proofs.Common.{◌≡◌, ◌≢◌, ℕ, ◌+◌, ◌==◌, ◌<◌, ◌≤◌, Bool, true, false, cond, not, ◌||◌, ◌&&◌, List, [], ◌∷◌, ◌++◌, filter, length, map, refl, sym, ap, ◌∙◌, subst, append_assoc, append-nil, arith, Option, Some, None}
 use Rattle.std.specs.Prelude.{All, AllPairs, find, option_and_then, option_map}
 use Rattle.std.specs.Option.{option_or}

@@ -1,4 +1,4 @@
--- What is due by what is kept says of an arrival what the record says of it.
+-- The due datagrams of the stored state give the same answer to an arrival as those of the record.
 use Rattle.std.proofs.Common.{◌≡◌, ◌==◌, Bool, true, false, cond, not, List, [], ◌∷◌, map, refl, sym, ap, ◌∙◌, Option, Some, None}
 use Rattle.std.specs.Prelude.{option_map}
 use Rattle.std.specs.Option.{option_map_or}
@@ -46,7 +46,7 @@ found_judged : (arrival : Arrival) (found : Option Sending) → option_map_or (j
 found_judged arrival None = refl
 found_judged arrival (Some sending) = due_judged arrival sending
 
--- what an arrival is by what is kept is what it is by the record, where it is current
+-- the judgement of an arrival by the stored state is that by the record, if it is current
 updates-join : (history : History) (waiting : Waiting) (arrival : Arrival) → KeepsAwaited history waiting → judged_in (line_of history) waiting arrival ≡ updates (judged_by history arrival)
 updates-join history waiting arrival waits =
     ap (λ found. option_map_or (judged_due arrival) found []) (waits.due arrival.serial)

@@ -1,4 +1,5 @@
--- What is found with a serial among marked things, once those that fail a test have gone and one more has come among them.
+-- The element that is found with a serial among marked elements, once those that fail a test have gone and one more has come
+-- among them.
 use Rattle.std.proofs.Common.{◌≡◌, ◌≢◌, ℕ, ◌==◌, ◌<◌, Bool, true, false, cond, List, [], ◌∷◌, ◌++◌, filter, map, refl, sym, ap, ◌∙◌, arith, Option, Some, None}
 use Rattle.std.specs.Prelude.{All, AllPairs, find, option_and_then}
 use Rattle.std.proofs.lemmas.Bool.{eqb-true, ne_eqb}

@@ -18,7 +18,7 @@ use Rattle.hc_core.proofs.ChangedTasks.{place-differs, table-differs}
 use Rattle.hc_core.proofs.changed.changed_tasks.Goals.{then-not-is_empty-via-then-not-is_empty, then-not-is_empty-via-else-not-is_empty+then-not-remaps}
 use Rattle.hc_core.proofs.changed.changed_tasks.Goals as goal
 
--- the tasks of the changed blocks, where they are all
+-- the tasks of the changed blocks, if they are all
 whole : (edit : PreparedEdit) (of : IsOfHistory edit) (blocks : TaskSet) → IsPrepared edit → HasTasksOfBlocks edit blocks → (remaps edit.report.swap.edit ≡ false) ⊎ (((t : ℕ) → t < 8 → has_task t blocks ≡ false) → ⊥)
     → HasChangedTasks edit blocks
 whole edit of blocks prepared has which t low =

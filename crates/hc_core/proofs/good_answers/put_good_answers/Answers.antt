@@ -21,7 +21,7 @@ loop-outcome-init c =
       fit = subst (All FitsImage) (sym same) c.requires;
     }
 
--- where no part or no outcome is left, nothing more is put
+-- if no part or no outcome is left, nothing more is put
 
 pub returns-in_default-clause-slots : goal.returns-in_default-clause-slots
 returns-in_default-clause-slots c = λ task d below.
