@@ -1,4 +1,4 @@
--- The use of a task's datagrams by its areas, and the table of a task put together from these uses.
+-- The use of a task's datagrams by its areas, and the table of the task, the same as `task_table`, put together from these uses.
 use Rattle.std.specs.Prelude.{ℕ, zero, suc, ◌+◌, ◌-◌, ◌/◌, ◌≤◌, min, List, [], ◌∷◌, ◌++◌, None, find, length, map, slice_get}
 use Rattle.std.specs.Option.{option_map_or}
 use Rattle.hc_records.specs.declared.keys.Key.{Key}

@@ -96,11 +96,11 @@ abbrev pub changed_variables : Table → Table → List ℕ
 changed_variables old new =
     filter (λ variable. not (same_found (place_in old variable) (place_in new variable))) (variables_of_both old new)
 
--- the new place of a variable, or that it has none, if that is not its old place
+-- the entry of a list for a number, if the list names the number
 abbrev pub said_of : {X : Type 0} → List (ℕ × X) → ℕ → Option X
 said_of list number = option_map (λ entry. entry.1) (find (λ entry. entry.0 == number) list)
 
--- the new place of a variable by a change, or that it has none; nothing if it is not among the change's rows
+-- the new table that a change names for a task: none if the old and new tables are equal, else the new one
 abbrev pub IsDifference : Option TaskTable → Option TaskTable → Option TaskTable → Type 0
 IsDifference old new None = old ≡ new
 IsDifference old new (Some said) = (new ≡ Some said) × (old ≢ new)
