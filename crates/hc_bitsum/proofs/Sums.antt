@@ -46,7 +46,7 @@ at-index dir rows sums above (suc height) depth i many leaves forks h low =
     (sym (ap sum_of (part-split dir rows (i * (2 ^ height + 2 ^ height)) (2 ^ height) (2 ^ height))
     ∙ sum_of-append (part dir rows (i * (2 ^ height + 2 ^ height)) (2 ^ height)) (part dir rows (i * (2 ^ height + 2 ^ height) + 2 ^ height) (2 ^ height))))
 
--- what a node stands for
+-- the areas that a node stands for
 pub node-sum : (dir : Dir) (rows : List (List ℕ)) (sums : List Sum) (above levels height node : ℕ) → length rows ≡ 2 ^ levels
     → AreRowSums (λ j. Unit {0}) dir rows sums → AreForks (λ k. above < k) (length rows) sums → IsNode levels height node → above < node
     → get_or sums node Empty ≡ sum_of (part dir rows (first_row_of levels height node) (2 ^ height))
@@ -129,7 +129,7 @@ next-first levels height node is =
     let next : node + 1 - 2 ^ (levels - height) ≡ i + 1 = omega arith in
     ap (λ n. n * 2 ^ height) next ∙ more-by i (2 ^ height)
 
--- how many rows are before the one after a node
+-- the number of rows before the one after a node
 
 pub up-left : (levels height node : ℕ) → height < levels → node % 2 ≡ 0 → IsNode levels height node
     → first_row_of levels (height + 1) (node / 2) + 2 ^ (height + 1) ≡ first_row_of levels height node + 2 ^ height + 2 ^ height

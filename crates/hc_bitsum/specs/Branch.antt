@@ -26,7 +26,8 @@ pub record AreSums (dir : Dir) (rows : List (List ℕ)) (sums : List Sum) : Type
   pub leaves : AreRowSums (λ i. Unit {0}) dir rows sums
   pub forks : AreForks (λ k. Unit {0}) (length rows) sums
 
--- it has at most 11 levels, 2 to the power of the levels rows, each of 8 narrow widths (`IsRow`), and twice as many nodes, which hold the sums (`AreSums`)
+-- a branch has at most 11 levels, 2 to the power of the levels rows, each of 8 narrow widths (`IsRow`), and twice as many
+-- nodes, which hold the sums (`AreSums`)
 pub record IsBranch (branch : Branch) : Type 0 where
   pub low : branch.levels ≤ 11
   pub many : length branch.rows.items ≡ 2 ^ branch.levels

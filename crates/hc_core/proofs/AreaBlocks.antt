@@ -25,7 +25,7 @@ use Rattle.hc_core.specs.Chosen.{IsAwaitedAt, IsLineBlock, block_bytes_in, known
 use Rattle.hc_core.specs.Held.{CanConfirmAreas, CanMarkAreas, held_if, held_only}
 use Rattle.hc_core.proofs.ChosenBlocks.{configured-at, lacks_with}
 
--- a place that has a block is one of an area that is kept
+-- a place that has a block is one of a stored area
 pub areas-within : (areas : List JudgedArea) (known : Knowledge) (held : Holdings) (unplugged : ℕ → Bool) (state : State) (n : ℕ) (block : LineBlock) → areas ≡ readiness_of known held unplugged state
     → slice_get (places state) n ≡ Some (Some block) → n < 2 * length areas
 areas-within areas known held unplugged state n block right at =

@@ -126,7 +126,7 @@ agree-inputs unchanged history taken arrival outcomes inputs ages epoch shows no
 
 -- an arrival that answers a frame of register writes
 
--- the write that is kept with the arrival's serial is the one that is awaited
+-- the stored write with the arrival's serial is the one that is awaited
 
 pub record IsUnchangedWith (history : History) (unchanged : Waiting) (arrival : Arrival) : Type 0 where
   pub write : AwaitedWrite

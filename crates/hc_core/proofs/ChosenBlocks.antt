@@ -132,7 +132,7 @@ mark-rest register_state new placed rest can sent = record {
       (λ one lacking. lacks_with can.known (found_name placed.block) one.block lacking) rest (All-tail (λ (one : PlacedBlock). lacks can.known one.block ≡ true) placed rest can.lacking);
 }
 
--- a place that has a block is one of those that are kept
+-- a place that has a block is one of the stored places
 pub unchanged-within : (register_state : RegisterState) (known : Knowledge) (state : State) (n : ℕ) (block : LineBlock) → register_state ≡ register_state_of known state → slice_get (places state) n ≡ Some (Some block) → n < length register_state.known
 unchanged-within register_state known state n block right at = search (rules, slice_get_within, length-map)
 
@@ -192,7 +192,7 @@ confirm-rest register_state new plan block rest outcome can confirmed = record {
   placed = All-tail (IsAwaitedAt can.state) block rest can.placed;
 }
 
--- what is known once a block's write is done
+-- the knowledge of registers once a block's write is done
 pub confirmed-known : (register_state new : RegisterState) (plan : State) (block : AwaitedBlock) (outcome : Outcome) (can : CanConfirm register_state plan (block ∷ [])) → write_is_done outcome ≡ true
     → ((known : Knowledge) (state : State) (found : LineBlock) → plan ≡ state → IsRightAt register_state block.place known state found → new ≡ register_state_of (known_with (found_name found) (Some found.block.bytes) known) state)
     → new ≡ register_state_of (known_if can.state block outcome can.known) can.state

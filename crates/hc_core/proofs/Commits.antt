@@ -90,7 +90,7 @@ IsAllowed history tasks = next_serial history + length (proposal history tasks) 
 pub allowed : (history : History) (tasks : List ℕ) → lowest (task_faults history tasks) ≡ None → IsAllowed history tasks
 allowed history tasks none = search (rules, passed, ltb-false, twice)
 
--- what is judged before the frames are planned finds nothing, and neither does what is judged after it
+-- ready tasks without a fault have none of the early faults
 pub early-apart : (history : History) (tasks : List ℕ) → lowest (ready_faults history tasks) ≡ None → lowest (early_ready_faults history tasks) ≡ None
 early-apart history tasks none = lowest-none (early_ready_faults history tasks) ((not (has_serials history (length (proposal history tasks))), SerialsSpent) ∷ []) none
 

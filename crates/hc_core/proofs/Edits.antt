@@ -113,7 +113,7 @@ updates-edited taken history edit changes new report accepted say shows =
       after_it = swap_after (state_of taken) changes swap ∙ ap (λ state. state_after state swap.edit) after_it ∙ ap (state_after (state_of history)) say.named;
     }
 
--- all that is kept
+-- all parts of a core
 
 agree-edited : (unchanged : CoreParts) (history taken : History) (new : State) (report : Report) (changed : TaskSet) (inputs : DatagramImage) (ages : Ages) (epochs : List ℕ) (outputs : Packed) (owed : RegisterState) (readiness : List JudgedArea) → edited (state_of history) report.swap.edit ≡ Ok new → ReportsEdit (state_of history) report.swap.edit new report
     → over_limit_task (line new) ≡ None → ((task : ℕ) → task < TASKS → has_task task changed ≡ changes_task (state_of history) new task)
@@ -192,7 +192,7 @@ table-leads core planned can = let prepared = can.prepared in search rules
 pub new-project : (edit : PreparedEdit) → IsPrepared edit → lowest_fault (groups_of edit.new.groups) ≡ None
 new-project edit prepared = accepted-project edit.old edit.new edit.report.swap.edit prepared.project prepared.accepted
 
--- eight areas are kept for each slave whose station address is kept
+-- eight areas are stored for each stored station address
 
 pub areas-declared : (unchanged : CoreParts) (history taken : History) → Agree unchanged history taken → length unchanged.readiness ≡ 8 * length unchanged.owed.stations
 areas-declared unchanged history taken agree =

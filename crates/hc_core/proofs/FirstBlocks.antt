@@ -1,4 +1,4 @@
--- The first owed blocks are those that are chosen by what is kept of the line's blocks, and they can be marked as sent.
+-- The first owed blocks are those that are chosen by the register state, and they can be marked as sent.
 use Rattle.std.proofs.Common.{◌≡◌, ℕ, ◌+◌, ◌<◌, ◌≤◌, nat_lt, Bool, true, false, cond, not, List, [], ◌∷◌, filter, length, map, take, refl, sym, ap, ◌∙◌, subst, arith, inr, Some, None}
 use Rattle.std.specs.Prelude.{All}
 use Rattle.std.proofs.lemmas.List.{take_all}
@@ -33,7 +33,7 @@ use Rattle.hc_core.specs.Chosen.{CanMark, IsChosenFrom, IsLineBlock, KeepsBlocks
 use Rattle.hc_core.specs.Held.{CanMarkAreas}
 use Rattle.hc_core.specs.Written.{first_blocks}
 
--- what is kept of the blocks is right for the line
+-- the register state is right for the line
 abbrev pub stays-blocks : (unchanged : CoreParts) (history taken : History) → Agree unchanged history taken → KeepsBlocks unchanged.owed unchanged.plan
 stays-blocks unchanged history taken agree = record { known = known_bytes history; state = state_of history; planned = agree.state; project = agree.project; right = agree.known }
 

@@ -1,4 +1,4 @@
--- Owed blocks, by what is kept of the line's blocks.
+-- Owed blocks, by the register state.
 use Rattle.std.proofs.Common.{◌≡◌, ℕ, zero, suc, ◌<◌, List, [], ◌∷◌, length, subst, Some, None, rules}
 use Rattle.std.specs.Prelude.{All, Contains, slice_get}
 use Rattle.std.proofs.lemmas.List.{length-map}
@@ -18,16 +18,16 @@ use Rattle.hc_events.specs.Owed.{is_owed, known_bytes, owed_blocks}
 use Rattle.hc_owed.specs.Laws as owed
 use Rattle.hc_core.specs.Agreement.{Agree, CoreParts}
 
--- a block's place is one of those that are kept
+-- a block's place is one of the stored places
 pub place-within : (unchanged : CoreParts) (history taken : History) (n : ℕ) (block : LineBlock) → Agree unchanged history taken → slice_get (places (state_of history)) n ≡ Some (Some block) → n < length unchanged.owed.known
 place-within unchanged history taken n block agree at = search (rules, slice_get_within, length-map)
 
--- what is kept is at it
+-- the register state is right at a block's place
 pub place-unchanged : (unchanged : CoreParts) (history taken : History) (n : ℕ) (block : LineBlock) → Agree unchanged history taken → slice_get (places (state_of history)) n ≡ Some (Some block)
     → owed.IsRightAt unchanged.owed n (known_bytes history) (state_of history) block
 place-unchanged unchanged history taken n block agree at = record { right = agree.known; project = agree.project; is_placed = at }
 
--- so it does with each owed one
+-- a property of each owed block holds for the one with an index
 
 pub each-is : (P : LineBlock → Type 0) (blocks : List LineBlock) (index : ℕ) (block : LineBlock) → All P blocks → slice_get blocks index ≡ Some block → P block
 each-is P [] index block all is = cc

@@ -65,7 +65,7 @@ can-admit owed readiness edit slaves room can is = record {
   fits = (declares-with (length (stations edit.old)) edit.report.swap.edit slaves room can.slaves is).fits;
 }
 
--- eight areas are kept of each declared slave
+-- eight areas are stored for each declared slave
 
 pub areas-many : (known : Knowledge) (held : Holdings) (unplugged : ℕ → Bool) (state : State) (areas : List JudgedArea) → areas ≡ readiness_of known held unplugged state → length areas ≡ 8 * length (stations state)
 areas-many known held unplugged state areas right = ap length right ∙ length-map-range_with_len (judged_at known held unplugged state) 0 (8 * length (stations state))

@@ -53,7 +53,7 @@ known-after history edit station number =
     (λ t. ap (λ b. cond b (known_bytes history station number) None) t ∙ sym (after-known history edit station number t))
     (λ t. ap (λ b. cond b (known_bytes history station number) None) t ∙ sym (after-unknown history edit station number t))
 
--- what is kept then is right for the record
+-- the state of the areas after the edit is right for the record
 
 not-both : (a b : Bool) → b ≡ true → (a && not b) ≡ false
 not-both true true is = refl

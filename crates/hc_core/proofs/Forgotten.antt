@@ -141,7 +141,7 @@ forget-accepted history station n e =
     ∙ ap (λ present. lowest (faults_by (is_declared_station (state_of history) station) present)) inside
     ∙ ap (λ declared. lowest (faults_by declared true)) (declared-too history station inside)
 
--- what is kept after it
+-- the parts of a core after a slave was forgotten
 
 values_forgot : (history : History) (station : ℕ) (packed : Packed) → HoldsValues history packed → HoldsValues (Forgot station ∷ history) packed
 values_forgot history station packed holds = holds
@@ -168,7 +168,7 @@ agree-forgot unchanged history taken station owed readiness inside right ready a
   shows = record { updates = agree.shows.updates; legal = agree.shows.legal; exact = agree.shows.exact; after_it = agree.shows.after_it };
 }
 
--- a slave that is cleared or unplugged leaves what is kept
+-- the parts of a core after a slave was cleared or unplugged
 
 values_cleared : (history : History) (station : ℕ) (packed : Packed) → HoldsValues history packed → HoldsValues (Cleared station ∷ history) packed
 values_cleared history station packed holds = holds

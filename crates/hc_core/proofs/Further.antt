@@ -109,7 +109,7 @@ further-has-room history bytes long none =
     lowest-after_it (further_faults history) (room_faults (writes_size (frame_blocks (further_blocks history))) bytes) none
     ∙ room-enough (writes_size (frame_blocks (further_blocks history))) bytes (λ less. absurd (omega (arith, less, long, most)))
 
--- what is answered, and recorded
+-- the answer to a further frame, and its entry in the record
 
 unchanged_next : (history next : History) (refused : Option CoreFault) → refused ≡ None → unless_fault refused history next ≡ next
 unchanged_next history next None none = refl

@@ -32,7 +32,7 @@ use Rattle.hc_sendings.specs.Judging.{written_head}
 use Rattle.hc_sendings.specs.WriteFrames.{block_of}
 use Rattle.hc_core.specs.Chosen.{block_bytes_in, write_is_done, known_done, known_if, known_sent}
 
--- what is kept by the same knowledge is the same
+-- the register state is the same by the same knowledge
 
 pub unchanged-alike : (a b : Knowledge) (state : State) → ((station number : ℕ) → a station number ≡ b station number) → register_state_of a state ≡ register_state_of b state
 unchanged-alike a b state same = search rules

@@ -57,7 +57,7 @@ same_split (entry ∷ since) one other a b e =
     let rest : since ++ one ∷ a ≡ since ++ other ∷ b = cc in
     same_split since one other a b rest
 
--- what a frame's good answers leave of a datagram's data
+-- the data of a datagram after a frame's good answers
 
 record GoodAt (since : List HistoryEntry) (line : List Member) (task d : ℕ) (pairs : List (Named × Part)) (n : ℕ) (part : Part) : Type 0 where
   at : slice_get pairs n ≡ Some ((task, d), part)
@@ -168,7 +168,7 @@ answered_good_answers since line task d (named ∷ frame) (part ∷ parts) slot 
     let next = cond (is_own since line task d named part) (Some part.bytes) slot in
     search (rules, answered_more, fold_one, answered_good_answers since line task d frame parts next)
 
--- what an arrival leaves of them
+-- the data of a datagram after an arrival
 
 record IsRenewed (history : History) (arrival : Arrival) (task d : ℕ) (slot : Option (List ℕ)) : Type 0 where
   place : ℕ
@@ -199,7 +199,7 @@ that_sending history arrival back sending entry before found split = search (rul
 same_frame : (a b : List Named) → Sent a ≡ Sent b → a ≡ b
 same_frame a b e = cc
 
--- what is good in a frame of tasks is good in what came back of it
+-- a part that is good in a frame of tasks is good in the frame that came back
 good_there : (history : History) (arrival : Arrival) (task d : ℕ) (sending : Sending) (frame : List Named) (before : History) → answered_by history arrival ≡ Some sending → history ≡ sending.since ++ Sent frame ∷ before
     → (n : ℕ) (part : Part) → IsGoodIn history arrival task d n part → GoodAt sending.since (line_of before) task d (zip frame arrival.parts) n part
 good_there history arrival task d sending frame before found split n part good =
@@ -319,7 +319,7 @@ nothing_in : (after_it : List HistoryEntry) (arrival : Arrival) (before : Histor
 nothing_in [] arrival before e = search rules
 nothing_in (first ∷ after_it) arrival before e = search rules
 
--- the same one after another entry
+-- the last good answer stays the last one after another entry
 later_too : (l a b p q r : ℕ) → l ≡ suc a → p ≡ q → (l < suc b) ⊎ ((l ≡ suc b) × (r < p)) → (a < b) ⊎ ((a ≡ b) × (r < q))
 later_too l a b p q r one same later = search rules
 

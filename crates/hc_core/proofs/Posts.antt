@@ -1,4 +1,4 @@
--- Output values after each entry, and what is kept after a post.
+-- Output values after each entry, and the parts of a core after a post.
 use Rattle.std.proofs.Common.{◌≡◌, ℕ, List, [], ◌∷◌, None, rules}
 use Rattle.hc_records.specs.declared.edit.Edit.{Edit}
 use Rattle.hc_records.specs.Line.{groups_of}
@@ -56,7 +56,7 @@ pub values-edited : (history : History) (edit : Edit) (packed : Packed) → Hold
     → HoldsValues (Edited edit ∷ history) packed
 values-edited history edit packed holds = search (rules, holds-alike, unchanged_same)
 
--- all that is kept
+-- all parts of a core
 
 accepted_posted : (history : History) (task : ℕ) (bytes : List ℕ) → IsPost (line_of history) task bytes → AreAccepted history → AreAccepted (Posted task bytes ∷ history)
 accepted_posted history task bytes post all = (post, all)

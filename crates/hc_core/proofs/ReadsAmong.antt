@@ -78,7 +78,7 @@ stale-leaves history next step answer_given (inr wanting) stale later = search r
 pub without-stale : (history : History) → IsAsWithoutStale history
 without-stale history later = same-after_it history (without_stale history) later (same-without history)
 
--- what a call's result says
+-- the result of a read call shows the last data
 
 pub read-shows : (history : History) (task : ℕ) (answer_given : Answer) → answer_given ≡ answer_to history (Reads task) → task < TASKS → ShowsLastData history task answer_given
 read-shows history task answer_given is low = subst (ShowsLastData history task) (sym is) (reads-last history task low)

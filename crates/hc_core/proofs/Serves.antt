@@ -48,7 +48,7 @@ pub tasks-served : (old new : History) (tasks : List ℕ) (result : Result Answe
     → IfErr result (λ found. found ≢ fault.Memory → lowest (task_faults old tasks) ≡ Some found) → OnOk result (new ≡ entries_after old (SendsTasks tasks)) → OnErr result (new ≡ old) → MayAnswer old (SendsTasks tasks) (answer_of result) new
 tasks-served old new tasks result answers names entries same = search rules
 
--- what is reported whatever memory does
+-- the faults that are reported even if memory is short
 
 pub if-some : {X : Type 0} (P Q : X → Type 0) (found : Option X) → ((x : X) → P x → Q x) → IfSome found P → IfSome found Q
 if-some P Q found next is = search rules
@@ -100,7 +100,7 @@ all-answered history between next (first ∷ steps) [] step answer_given all one
 all-answered history between next (first ∷ steps) (other ∷ answers) step answer_given all one early =
     (all.0, all.1, all-answered all.0 between next steps answers step answer_given all.2 one early, all.3)
 
--- what a call's result says of the record alone
+-- the results of calls, in terms of the record alone
 
 pub history-after : {X E : Type 0} (result : Result X E) (old new : CoreState) (next : History) → OnOk result (new ≡ record old { history = next }) → OnOk result (new.history ≡ next)
 history-after result old new next entries = search rules

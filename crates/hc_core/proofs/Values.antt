@@ -1,4 +1,4 @@
--- The bytes that are kept of outputs are the data that the record sends.
+-- The stored bytes of the outputs are the data that the record sends.
 use Rattle.std.proofs.Common.{◌≡◌, ◌⊎◌, inl, inr, ℕ, ◌+◌, ◌-◌, ◌*◌, ◌<◌, ◌≤◌, List, [], ◌∷◌, length, map, sym, ap, ◌∙◌, subst, arith, refl, None, rules}
 use Rattle.std.specs.Prelude.{All}
 use Rattle.std.proofs.lemmas.List.Elements.{All-head, All-tail}
@@ -74,7 +74,7 @@ data-same history bytes task d project low few is_placed carries =
     (subst (λ n. k < 8 * n) (carries.sizes task d low few ∙ length-of_line (line_of history) task d low is_placed ∙ sym sent.size) below)
     (bit-lies (table_of (line_of history)) task d k (table-ascends (state_of history).groups project)))
 
--- what is sent of each datagram of the line
+-- the sent data of each datagram of the line
 
 pub data-sent : (history : History) (packed : Packed) (task d : ℕ) → lowest_fault (groups_of (state_of history).groups) ≡ None → over_limit_task (line_of history) ≡ None → task < TASKS → IsInLine (line_of history) (task, d)
     → HoldsValues history packed → sent_bytes packed task d ≡ sent_data history task d

@@ -91,7 +91,7 @@ serial-left history none =
     below : (serial : ℕ) → not (not (nat_lt SETUP_SERIAL (serial + 1))) ≡ false → serial < SETUP_SERIAL
     below serial e = grind (arith, nat_tests)
 
--- what is answered, and recorded
+-- the answer to a frame of the first owed blocks, and its entry in the record
 
 unchanged_next : (history next : History) (refused : Option CoreFault) → refused ≡ None → unless_fault refused history next ≡ next
 unchanged_next history next None none = refl
@@ -146,7 +146,7 @@ sent-answer_given history none =
     ap (λ blocks. sent_answer (writes_text (next_serial history) blocks) (length blocks)) (first-all history)
     ∙ sent-answered (next_serial history) (frame_blocks (owed_blocks history)) (frame-holds history (some-owed history none)) ∙ sym (writes-answer_given history none)
 
--- what refuses a slice
+-- the faults of a slice
 
 one_bytes : (blocks : List LineBlock) → 0 < length blocks → writes_size (take 1 blocks) ≡ write_size blocks
 one_bytes [] some = absurd (omega arith)
@@ -171,7 +171,7 @@ one-faults history bytes = by_owed (owed_blocks history) refl
 pub all-faults : (history : History) (bytes : ℕ) → first_into_faults FRAME_BLOCKS history bytes ≡ write_all_into_faults history bytes
 all-faults history bytes = ap (λ blocks. write_faults history (owed_blocks history) ++ room_faults (writes_size blocks) bytes) (first-all history)
 
--- what a frame of as many as it holds does to a slice, and to the core
+-- the slice and the core after a frame of as many blocks as it holds
 
 pub all-written : (history : History) (old new : List ℕ) (result : Result SentWrites CoreFault) → IfOk result (HoldsBlocks history (first_blocks FRAME_BLOCKS history) old new)
     → OnOk result (lowest (first_into_faults FRAME_BLOCKS history (length old)) ≡ None) → IfOk result (HoldsWrites history old new)

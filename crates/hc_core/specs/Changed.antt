@@ -40,7 +40,7 @@ remaps (Remap station area pdos) = true
 remaps (Move station area task) = false
 remaps (Declare group) = false
 
--- it is prepared for the line of a record
+-- an edit is prepared for the line of a record
 pub record IsOfHistory (edit : PreparedEdit) : Type 0 where
   pub history : History
   pub made : edit.old ≡ state_of history

@@ -1,4 +1,4 @@
--- After an accepted edit what is kept is right for the new line.
+-- The register state is right for the new line after an accepted edit.
 use Rattle.std.proofs.Common.{◌≡◌, ℕ, ◌*◌, ◌<◌, Bool, false, List, [], ◌∷◌, length, map, refl, sym, ap, ◌∙◌, arith, rules}
 use Rattle.std.specs.Prelude.{◌≢◌, All, None, Some, Option, option_map, slice_get, unwrap_or}
 use Rattle.std.proofs.lemmas.List.{length-map}

@@ -1,4 +1,5 @@
--- After a declaration what is kept is right: the group's slaves have empty places after the others, and of the others all is as it was.
+-- The register state is right after a declaration: the group's slaves have empty places after the others, and the places of the
+-- others are as they were.
 use Rattle.std.proofs.Common.{◌≡◌, ℕ, zero, suc, ◌+◌, ◌*◌, ◌<◌, ◌≤◌, Bool, false, List, [], ◌∷◌, ◌++◌, length, map, refl, sym, ap, ◌∙◌, arith, if◌then◌else◌, length-append, rules}
 use Rattle.std.specs.Prelude.{None, Some, Option, option_map, replicate, slice_get}
 use Rattle.std.proofs.lemmas.List.{length-map, map-append}
@@ -66,7 +67,7 @@ entered known old group added is =
     ∙ ap (λ (l : List ℕ). register_state_from (map (known_in over) (places new)) (map (owed_in over) (places new)) l)
     (ap (λ (l : List ℕ). stations old ++ l) is ∙ sym (declared-stations old group))
 
--- the room serves what is kept, and the slaves are few
+-- the room suffices for the register state, and the slaves are few
 
 pub record Fits (register_state : RegisterState) (room : OwedRoom) : Type 0 where
   pub few : length register_state.stations + length room.added < 65536

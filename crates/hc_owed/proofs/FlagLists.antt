@@ -146,7 +146,7 @@ pub record AreFlags (words : List ℕ) (len capacity : ℕ) (flags : Flags) : Ty
 pub are-flags : (words : List ℕ) (len capacity : ℕ) (flags : Flags) → flags_of (flags_from words len 0) (64 * capacity) ≡ flags → AreFlags words len capacity flags
 are-flags words len capacity flags same = search (rules, length-flags)
 
--- how many are set
+-- the number of flags that are set
 
 pub count-pushed : (flags : List Bool) (flag : Bool) → set_count (flags ++ flag ∷ []) ≡ set_count flags + one flag
 count-pushed [] flag = omega arith

@@ -1,4 +1,4 @@
--- Which slaves hold a task up, by what is kept of their areas.
+-- The slaves that hold a task up, by the state of their areas.
 use Rattle.std.proofs.Common.{◌≡◌, ℕ, zero, suc, ◌+◌, ◌-◌, ◌*◌, ◌/◌, ◌%◌, ◌<◌, ◌≤◌, ◌==◌, ◌&&◌, ◌||◌, Bool, true, false, cond, AllPairs, Contains, List, [], ◌∷◌, ◌++◌, drop, length, map, take, refl, sym, ap, ap₂, subst, ◌⊎◌, inl, inr, ◌∙◌, arith, length-append, get_or}
 use Rattle.std.specs.Prelude.{◌≢◌, None, Some, Option, filter, find, is_some, nat_lt, not, option_map, slice_get, slice_range}
 use Rattle.std.specs.List.{flat_map, list_any, range_with_len}

@@ -1,4 +1,5 @@
--- After a declaration what is kept of the areas is right: those of the group's slaves keep no task waiting, and the others are as they were.
+-- The state of the areas is right after a declaration: the areas of the group's slaves keep no task waiting, and the others are
+-- as they were.
 use Rattle.std.proofs.Common.{◌≡◌, ℕ, zero, suc, ◌+◌, ◌-◌, ◌*◌, ◌/◌, ◌%◌, ◌<◌, ◌≤◌, ◌&&◌, ◌||◌, Bool, true, false, cond, List, [], ◌∷◌, ◌++◌, length, map, refl, sym, ap, ap₂, ◌⊎◌, inl, inr, ◌∙◌, arith, length-append}
 use Rattle.std.specs.Prelude.{None, Some, Option, find, is_some, nat_lt, not, option_and_then, replicate, slice_get, slice_index_or}
 use Rattle.std.proofs.lemmas.Bool.{cases_lt}

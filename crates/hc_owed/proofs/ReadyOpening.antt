@@ -29,7 +29,7 @@ owes : (found : Option LineBlock) → owed_in nothing_known found ≡ is_some fo
 owes None = refl
 owes (Some block) = refl
 
--- what is kept of an area with or without blocks
+-- the state of an area with or without blocks
 abbrev opened : Option LineBlock → JudgedArea
 opened None = no_area
 opened (Some block) = area_from (own_set (Some block)) no_task Both Unknown

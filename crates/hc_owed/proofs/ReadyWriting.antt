@@ -59,7 +59,7 @@ module _ (known : Knowledge) (held : Holdings) (unplugged : ℕ → Bool) (state
           let one = one-area state i (p / 2) slave own.slave project area own.area (sym station ∙ sym own.station) (omega (arith, number, own-number)) in
           absurd (apart (omega (arith, one, number, own-number)))
 
-  -- an area of another block is kept as it was
+  -- an area of another block is as it was
   kept-else : (i : ℕ) → p / 2 ≢ i → judged_at known held unplugged state i ≡ judged_at known' held' unplugged state i
   kept-else i apart =
       judged-same known known' held held' unplugged state i (owed-else (2 * i) (λ same. apart (omega (arith, same)))) (owed-else (2 * i + 1) (λ same. apart (omega (arith, same))))

@@ -34,7 +34,7 @@ other-name state n i block b project at other apart = by (same_name (found_name 
         absurd (apart (one-place state n i block b project at other (eqb-true block.station b.station parts.0) (eqb-true block.number b.number parts.1)))
     by false is = refl
 
--- with other bytes known of one block, what is kept is changed at its place alone
+-- with other known bytes of one block, the register state changes at the block's place alone
 written : {Y : Type 0} (f g : Option LineBlock → Y) (state : State) (n : ℕ) (block : LineBlock) (y : Y) → slice_get (places state) n ≡ Some (Some block) → g (Some block) ≡ y
     → ((i : ℕ) (z : Option LineBlock) → n ≢ i → slice_get (places state) i ≡ Some z → f z ≡ g z) → changed_at n (λ _. y) (map f (places state)) ≡ map g (places state)
 written {Y} f g state n block y at here others =

@@ -270,7 +270,7 @@ impl Owed {
         }
     }
 
-    /// Follows an accepted edit that declares nothing. `gone` are the slaves that left the line, and `moved` its moved blocks,
+    /// Applies an accepted edit that declares nothing. `gone` are the slaves that left the line, and `moved` its moved blocks,
     /// as the line now configures them. Of the blocks of slaves that left nothing is stored. Of the blocks of slaves that came
     /// nothing is known, and they are owed. Of the other blocks the known bytes stay, and the moved ones are compared with
     /// them. It takes the time of the blocks that left and moved.

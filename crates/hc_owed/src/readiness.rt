@@ -233,8 +233,8 @@ impl Readiness {
         }
     }
 
-    /// Follows the loss of the registers of the slave with an index by rank, from 0: each of its blocks is owed, if it is in
-    /// the line. The bytes that its FMMUs' registers may hold stay.
+    /// Marks each block of the slave with an index by rank, from 0, as owed, if the slave is in the line, since it may have
+    /// lost its registers. The bytes that its FMMUs' registers may hold stay.
     pub fn forget(&mut self, index: u16)
         requires { 8 * index + 8 ≤ length self.old }
         ensures { ForgetsSlave self.old self.new index }
@@ -243,8 +243,7 @@ impl Readiness {
         self.turn(from, from + 8, Turn::Forgotten);
     }
 
-    /// Follows the clearing of the FMMUs' registers of the slave with an index by rank, from 0: they hold zeros, name no task,
-    /// and are not unknown.
+    /// Marks the FMMUs' registers of the slave with an index by rank, from 0, as zeros: they name no task, and are not unknown.
     pub fn clear(&mut self, index: u16)
         requires { 8 * index + 8 ≤ length self.old }
         ensures { ClearsSlave self.old self.new index }
@@ -253,8 +252,8 @@ impl Readiness {
         self.turn(from, from + 8, Turn::Cleared);
     }
 
-    /// Follows the unplugging of the slave with an index by rank, from 0, which is outside the line: its registers concern no
-    /// task until it is in the line again.
+    /// Marks the slave with an index by rank, from 0, which is outside the line, as off the wire: its registers concern no task
+    /// until it is in the line again.
     pub fn unplug(&mut self, index: u16)
         requires { 8 * index + 8 ≤ length self.old }
         ensures { UnplugsSlave self.old self.new index }
@@ -263,7 +262,7 @@ impl Readiness {
         self.turn(from, from + 8, Turn::Unplugs);
     }
 
-    /// Follows the move of a block of the line with an edit, and returns the tasks that its area was in and is in now. `owed`
+    /// Applies the move of a block of the line with an edit, and returns the tasks that its area was in and is in now. `owed`
     /// is the state of the blocks after the edit.
     fn move_block(&mut self, owed: &Owed, moved: &RankedBlock) -> TaskSet
         requires rank { 1 ≤ moved.now.rank }
@@ -280,7 +279,7 @@ impl Readiness {
         was.own.with(now.own)
     }
 
-    /// Follows the moves of blocks of the line with an edit, one after another, and returns the tasks that their areas were in
+    /// Applies the moves of blocks of the line with an edit, one after another, and returns the tasks that their areas were in
     /// and are in now.
     fn move_blocks(&mut self, owed: &Owed, moved: &[RankedBlock]) -> TaskSet
         requires ranks { All (λ block. 1 ≤ block.rank) moved.now }
@@ -296,7 +295,7 @@ impl Readiness {
         set
     }
 
-    /// Follows an accepted edit that declares nothing. `gone` are the slaves that left the line, `moved` its moved blocks, and
+    /// Applies an accepted edit that declares nothing. `gone` are the slaves that left the line, `moved` its moved blocks, and
     /// `owed` the state of the blocks after the edit. The registers of slaves that came are unknown. The bytes that registers
     /// may hold stay, and the registers of slaves that left concern the tasks that they name from then on. Returns the tasks
     /// whose register blocks the edit changed: a block of one of the task's areas left, came, or has other bytes. It takes the

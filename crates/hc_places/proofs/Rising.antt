@@ -152,7 +152,7 @@ ascends-by_number rows few =
 unchanged-length-by : (passes : Bool) (row : VariableRow) (unchanged : List VariableRow) → length (cond passes (row ∷ unchanged) unchanged) ≡ cond passes 1 0 + length unchanged
 unchanged-length-by passes row unchanged = grind arith
 
--- how many rows a number has
+-- the number of rows of a number
 pub unchanged-length : (number : ℕ) (rows : List VariableRow) → length (filter (numbered number) rows) ≡ total (of_row number) rows
 unchanged-length number [] = refl
 unchanged-length number (row ∷ rows) = grind (arith, unchanged-length-by, own-swap, unchanged-length number rows)

@@ -13,7 +13,7 @@ use Rattle.hc_cuts.specs.Areas.{area_in}
 abbrev pub area_rows : ℕ → Area → Placed → List VariableRow
 area_rows task area placed = area_variables task (record { key = placed.key; area = area }, placed)
 
--- those of the area that is at a place
+-- the variables of the area at a place
 abbrev pub found_variables : ℕ → List (List Area) → Placed → List VariableRow
 found_variables task slaves placed = option_map_or (λ area. area_rows task area placed) (area_in slaves placed.key) []
 

@@ -129,7 +129,7 @@ found-from test first (x ∷ xs) = found-by (test x) first (position_from test (
 pub found-any : {X : Type 0} (test : X → Bool) (xs : List X) → is_some (position test xs) ≡ list_any test xs
 found-any test xs = ap is_some (position_from-zero test xs) ∙ found-from test 0 xs
 
--- how many slaves are declared
+-- the number of declared slaves
 
 ranks-length : (groups : List Declared) → length (areas_by_rank groups) ≡ length (slaves_of (groups_of groups))
 ranks-length [] = refl

@@ -139,7 +139,7 @@ impl RegisterBlocks {
         }
     }
 
-    /// Follows an accepted edit that declares nothing. `gone` are the slaves that left the line, and `moved` its moved blocks,
+    /// Applies an accepted edit that declares nothing. `gone` are the slaves that left the line, and `moved` its moved blocks,
     /// as the line now configures them. It takes the time of the blocks that left and moved.
     pub(crate) fn change(&mut self, gone: Gone, moved: &[RankedBlock])
         requires edited { BlocksAreEdited self.old gone moved.now }

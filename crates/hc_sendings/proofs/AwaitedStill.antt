@@ -1,4 +1,4 @@
--- Frames that are kept, and which of them are awaited.
+-- Stored frames, and those of them that are awaited.
 use Rattle.std.proofs.Common.{◌≡◌, ℕ, ◌+◌, ◌<◌, ◌≤◌, Bool, true, false, cond, ◌||◌, List, [], ◌∷◌, ◌++◌, length, map, filter, take, drop, get_or, refl, sym, ap, ◌∙◌, arith, add-one, length-append, Option}
 use Rattle.std.specs.Prelude.{All}
 use Rattle.std.specs.List.{list_any}

@@ -19,7 +19,7 @@ parts-placed : (start : ℕ) (parts : List Part) → parts_of (placed_from start
 parts-placed start [] = refl
 parts-placed start (part ∷ parts) = ap (λ (rest : List Part). part ∷ rest) (parts-placed (start + (12 + length part.bytes)) parts)
 
--- what is due of datagrams of a frame with a serial
+-- the due datagrams of a frame with a serial
 abbrev pub due_by : List Member → LastSent → ℕ → List Named → List Due
 due_by line last_sent serial datagrams = map (due_of line) (map (awaited_datagram last_sent serial) datagrams)
 

@@ -23,8 +23,8 @@ fn clear_each(writes: &mut [Write])
     }
 }
 
-/// Follows the sending of blocks in a later frame. It ends the writes that are the newest of no other block. It ends all of
-/// them if `is_over`, which means that a slave was forgotten since the last write.
+/// Ends the writes that are the newest of no other block, once these blocks are sent in a later frame. It ends all of them if
+/// `is_over`, which means that a slave was forgotten since the last write.
 fn retire_each(writes: &mut [Write], is_over: bool, again: &[PlacedBlock])
     ensures { writes.new ≡ map (left_after (map awaited_block again.now) is_over) writes.old }
 {
@@ -33,7 +33,7 @@ fn retire_each(writes: &mut [Write], is_over: bool, again: &[PlacedBlock])
     }
 }
 
-/// Follows the loss of the slave with a station address: it ends the writes that are the newest of no block of another slave.
+/// Ends the writes that are the newest of no block of another slave than the one with a station address, which was forgotten.
 fn forget_each(writes: &mut [Write], station: u16)
     ensures { writes.new ≡ map (left_forgotten station) writes.old }
 {
@@ -142,8 +142,8 @@ impl FurtherWrites {
         clear_each(&mut self.writes);
     }
 
-    /// Follows the sending of blocks in a later frame, of first owed or of further blocks. It ends the writes that are the
-    /// newest of no other block. It ends all of them if `is_over`, which means that a slave was forgotten since the last write.
+    /// Ends the writes that are the newest of no other block, once these blocks are sent in a later frame, as first owed or as
+    /// further ones. It ends all of them if `is_over`, which means that a slave was forgotten since the last write.
     pub(crate) fn retire(&mut self, is_over: bool, again: &[PlacedBlock])
         ensures { self.new ≡ left_after (map awaited_block again.now) is_over self.old }
     {
@@ -172,8 +172,8 @@ impl FurtherWrites {
         Ok(())
     }
 
-    /// Follows the loss of the slave with a station address: it ends the writes that are the newest of no block of another
-    /// slave.
+    /// Ends the writes that are the newest of no block of another slave than the one with a station address, which was
+    /// forgotten.
     pub(crate) fn forget(&mut self, station: u16)
         ensures { self.new ≡ left_forgotten station self.old }
     {

@@ -48,8 +48,8 @@ impl LastWrites {
         self.last.clear();
     }
 
-    /// Follows the sending of these blocks: the writes before it are no longer their newest. A write that is the newest of no
-    /// block ends.
+    /// Marks the writes as no longer the newest of these blocks, which are sent again. A write that is the newest of no block
+    /// ends.
     #[inline(always)]
     pub(crate) fn write_again(&mut self, again: &[PlacedBlock])
         ensures { self.new ≡ filter is_awaited (map (with_written (map awaited_block again.now)) self.old) }
@@ -71,8 +71,8 @@ impl LastWrites {
         self.last.put(serial, placed);
     }
 
-    /// Follows the loss of the slave with a station address: no write is the newest of its blocks, and the writes that are the
-    /// newest of no other block end.
+    /// Marks the writes as no longer the newest of any block of the slave with a station address, which was forgotten. A write
+    /// that is the newest of no other block ends.
     pub(crate) fn forget(&mut self, station: u16)
         ensures { self.new ≡ left_forgotten station self.old }
     {

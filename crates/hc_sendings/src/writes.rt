@@ -59,8 +59,8 @@ fn forgotten(block: &AwaitedBlock, station: u16) -> AwaitedBlock
     }
 }
 
-/// Follows a write of these blocks: those among the older blocks are no longer the newest. It is a function of its own in the
-/// built code too, since mostly no older write is awaited.
+/// Marks the blocks of an older write that are among these as no longer the newest, since these are sent again. It is a
+/// function of its own in the built code too, since mostly no older write is awaited.
 #[inline(never)]
 fn write_again(blocks: &mut [AwaitedBlock], again: &[PlacedBlock])
     ensures { blocks.new ≡ map (written_again (map awaited_block again.now)) blocks.old }
@@ -70,7 +70,7 @@ fn write_again(blocks: &mut [AwaitedBlock], again: &[PlacedBlock])
     }
 }
 
-/// Follows the loss of the slave with a station address: its blocks are no longer the newest.
+/// Marks the blocks of the slave with a station address, which was forgotten, as no longer the newest.
 fn forget_blocks(blocks: &mut [AwaitedBlock], station: u16)
     ensures { blocks.new ≡ map (block_forgotten station) blocks.old }
 {
@@ -201,7 +201,8 @@ impl Write {
         self.is_awaited && any_newest_of(self.blocks.as_slice(), station, number)
     }
 
-    /// Follows a write of these blocks: the frame ends if it is the newest write of no other block.
+    /// Marks the blocks among these as no longer the newest, since these are sent again. The frame ends if it is the newest
+    /// write of no other block.
     #[inline(always)]
     pub(crate) fn write_again(&mut self, again: &[PlacedBlock])
         ensures { self.new ≡ filter is_awaited (map (with_written (map awaited_block again.now)) self.old) }
@@ -212,8 +213,8 @@ impl Write {
         }
     }
 
-    /// Follows a later frame with these blocks. The frame ends if it is the newest write of no other block, or if a slave was
-    /// forgotten since the last write (`is_over`).
+    /// Applies the sending of a later frame with these blocks. The frame ends if it is the newest write of no other block, or
+    /// if a slave was forgotten since the last write (`is_over`).
     pub(crate) fn retire(&mut self, is_over: bool, again: &[PlacedBlock])
         ensures { self.new ≡ left_after (map awaited_block again.now) is_over self.old }
     {
@@ -224,8 +225,8 @@ impl Write {
         }
     }
 
-    /// Follows the loss of the slave with a station address: the frame ends if it is the newest write of no block of another
-    /// slave.
+    /// Marks the blocks of the slave with a station address, which was forgotten, as no longer the newest. The frame ends if it
+    /// is the newest write of no block of another slave.
     pub(crate) fn forget(&mut self, station: u16)
         ensures { self.new ≡ left_forgotten station self.old }
     {

@@ -1,4 +1,5 @@
--- All candidates are between the ranks of the slaves that change and of those between the boundaries of datagrams after what is kept of them.
+-- All candidates are between the ranks of the slaves that change and of those between the boundaries of datagrams after their
+-- kept parts.
 use Rattle.std.proofs.Common.{◌≡◌, ℕ, ◌+◌, ◌<◌, ◌≤◌, Bool, true, false, List, [], ◌∷◌, Contains, length, refl, sym, ap, subst, ◌∙◌, ⊎_elim, arith, rules}
 use Rattle.std.specs.Prelude.{All, slice_index_or}
 use Rattle.std.proofs.Math.Nat.{eq-or-lt_of_le}
@@ -55,7 +56,7 @@ placed-out list placed none among =
     (subst (λ (areas : List Keyed). All (λ (area : Keyed). same_dir area.0.dir In ≡ false) areas) (sym (packed-areas empty_front list)) (no-input list none)) in
     dir-out placed.key.dir (All-contains (λ (p : Placed). same_dir p.key.dir In ≡ false) places placed outputs among)
 
--- the ranks of areas up to which their datagrams aren't kept, among the first datagrams of a task
+-- the ranks of areas up to which their datagrams are not kept, among the first datagrams of a task
 
 abbrev pub unchanged_in : EditedLine → ℕ → ℕ → Key → Bool
 unchanged_in it task datagram key = is_unchanged_up_to (task_list task (line_from 1 it.old)) (task_list task (line_from 1 it.new)) datagram key
@@ -99,7 +100,8 @@ held-next it task count low high wide_low wide_high starts inputs is are_placed 
     (λ under. let before = hold placed among under narrow unkept in (omega (arith, before, wider), omega (arith, before, wider)))
     (eq-or-lt_of_le {n = placed.datagram} {m = count} (omega arith))
 
--- an area that isn't before the key until which its datagram is kept, nor before the datagram's first key, isn't before the higher of the two
+-- an area that is not before the key until which its datagram is kept, nor before the datagram's first key, is not before the
+-- higher of the two
 pub from-higher : (it : EditedLine) (task number : ℕ) (starts : List Key) (inputs : Bool) (until from key : Key) → IsUnkeptIn it task number starts inputs key
     → ((k : Key) → is_before k END ≡ true → is_before k until ≡ unchanged_in it task number k)
     → ((k : Key) → is_within (slice_index_or starts number END) k ≡ true → is_within until k ≡ true → is_within from k ≡ true)

@@ -1,4 +1,4 @@
--- Which areas are recut: none of a task that no edit touched, and none up to which its datagram is kept.
+-- The areas that are recut: none of a task that no edit touched, and none up to which its datagram is kept.
 use Rattle.std.proofs.Common.{◌≡◌, ℕ, ◌+◌, ◌<◌, ◌≤◌, zero, suc, Bool, true, false, List, [], ◌∷◌, ◌++◌, length, Option, Some, None, refl, sym, ap, ◌∙◌, arith, rules}
 use Rattle.std.specs.Prelude.{Contains, not, slice_get, ◌&&◌, ◌||◌}
 use Rattle.std.specs.Option.{option_map_or}
@@ -78,7 +78,7 @@ untouched-areas old new found was is none =
     ap (λ (list : List Keyed). is_unchanged_up_to list after placed.datagram placed.key) same
     ∙ own-unchanged after placed.datagram placed.key (project-list new task is) nothing (omega arith))
 
--- a recut area of a line is in a datagram that wasn't kept up to it
+-- a recut area of a line is in a datagram that was not kept up to it
 pub record IsUnkeptAt (old new : List Member) (found : LineArea) : Type 0 where
   pub placed : Placed
   pub is_placed : Contains (task_places found.area.task new) placed

@@ -39,12 +39,12 @@ state_of groups = record { groups = groups; epoch = 0 }
 pub task-list : (groups : List Declared) (task : ℕ) → lowest_fault (groups_of groups) ≡ None → IsTaskList (task_list task (line_from 1 groups))
 task-list groups task none = project-list (state_of groups) task none
 
--- which datagrams are kept is given by the areas of both lines
+-- the kept datagrams are given by the areas of both lines
 pub unchanged-listed : (old new : List Declared) (task datagram : ℕ)
     → is_unchanged (task_list task (line_from 1 old)) (task_list task (line_from 1 new)) datagram ≡ is_unchanged (list_by task (areas_by_rank old)) (list_by task (areas_by_rank new)) datagram
 unchanged-listed old new task datagram = search (rules, task-listed)
 
--- what a kept datagram holds is in the old table
+-- the use of a kept datagram is in the old table
 pub unchanged-answer_given : (old new : List Declared) (task datagram : ℕ) → lowest_fault (groups_of old) ≡ None → lowest_fault (groups_of new) ≡ None → task < TASKS
     → is_unchanged (task_list task (line_from 1 old)) (task_list task (line_from 1 new)) datagram ≡ true
     → datagram_use_answered (table_of (line_from 1 old)) task datagram ≡ datagram_use_in (task_places task (line_from 1 new)) datagram

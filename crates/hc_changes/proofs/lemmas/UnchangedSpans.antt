@@ -1,4 +1,4 @@
--- A kept datagram carries what it carried.
+-- A kept datagram carries the areas that it carried.
 use Rattle.std.proofs.Common.{◌≡◌, ℕ, zero, suc, true, false, List, [], ◌∷◌, ◌++◌, Option, Some, refl, sym, ap, ◌∙◌, rules}
 use Rattle.std.specs.Prelude.{map, slice_get, ◌&&◌}
 use Rattle.std.specs.Option.{option_map_or}
@@ -58,7 +58,7 @@ unchanged-number old new datagram is is' unchanged =
     let two = span-alone old span is same.was_span in
     found.1 ∙ ap (λ (k : Key). Some (span.0, k)) (one.next ∙ sym two.next)
 
--- so a kept datagram carries the same areas at the same bits
+-- a kept datagram carries the same areas at the same bits
 pub unchanged-inside : (old new : List Keyed) (datagram : ℕ) → IsTaskList old → IsTaskList new → is_unchanged old new datagram ≡ true
     → inside datagram (packed empty_front new) ≡ inside datagram (packed empty_front old)
 unchanged-inside old new datagram is is' test =

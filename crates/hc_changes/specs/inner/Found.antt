@@ -48,7 +48,7 @@ area_by station rank index area = record {
 abbrev pub area_found : EditedLine → ℕ → ℕ → ℕ → Area → List MaybeMoved
 area_found edited_line station rank index area = found_among edited_line (area_by station rank index area ∷ [])
 
--- those among a slave's areas, from an index on
+-- the candidates among a slave's areas, from an index on
 unfoldable pub areas_found : EditedLine → ℕ → ℕ → ℕ → List Area → List MaybeMoved
 areas_found edited_line station rank index [] = []
 areas_found edited_line station rank index (area ∷ areas) =
@@ -62,11 +62,11 @@ declared_stations groups = flat_map (λ declared. map (λ slave. slave.station) 
 abbrev pub ranked_station : List Declared → ℕ → ℕ
 ranked_station groups rank = slice_index_or (0 ∷ declared_stations groups) rank 0
 
--- those among the areas of the slave with a rank
+-- the candidates among the areas of the slave with a rank
 unfoldable pub rank_found : EditedLine → ℕ → List MaybeMoved
 rank_found edited_line rank = areas_found edited_line (ranked_station edited_line.old rank) rank 0 (areas_of_rank (areas_by_rank edited_line.new) rank)
 
--- those of the slaves with lower ranks
+-- the candidates of the slaves with lower ranks
 unfoldable pub found_below : EditedLine → ℕ → List MaybeMoved
 found_below edited_line zero = []
 found_below edited_line (suc rank) = found_below edited_line rank ++ rank_found edited_line rank

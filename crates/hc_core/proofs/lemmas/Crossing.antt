@@ -29,7 +29,7 @@ core_send = search (sendable, inside_send) depth 20
 pub core_field_send : IsSend (Core.the_field).row
 core_field_send = search (sendable, core_send) depth 20
 
--- what threads may share
+-- the parts that threads may share
 
 plan_sync : IsSync (Plan.the_field).row
 plan_sync = search (sendable, crosses) depth 400 fits 100000

@@ -5,7 +5,7 @@ use Rattle.hc_places.specs.Table.{VariableRow}
 use Rattle.hc_records.specs.Image.{VariablePlace}
 use Rattle.hc_places.specs.Swap.{new_row}
 
--- what an element of one list alone gives, or two of one number
+-- the results for an element of one list alone, and for two elements of one number
 pub record Gives (X Y Z : Type 0) : Type 0 where
   pub first : ℕ × X → List Z
   pub second : ℕ × Y → List Z
@@ -19,7 +19,8 @@ walked_past gives second rest (first ∷ firsts) =
     else if nat_lt second.0 first.0 then gives.second second ++ rest (first ∷ firsts)
     else gives.both first second ++ rest firsts
 
--- what two lists in the order of their numbers give, walked at once: each element where its number is in one list alone, else two of one number together
+-- the results of two lists in the order of their numbers, walked at once: for each element alone if its number is in one list
+-- only, otherwise for the two elements of one number together
 abbrev pub walked : {X Y Z : Type 0} → Gives X Y Z → List (ℕ × Y) → List (ℕ × X) → List Z
 walked gives [] firsts = flat_map gives.first firsts
 walked gives (second ∷ seconds) firsts = walked_past gives second (λ left. walked gives seconds left) firsts

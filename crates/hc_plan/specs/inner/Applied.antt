@@ -23,6 +23,6 @@ pub record Makes (edit : Edit) (table : Table) (edited_line : EditedLine) : Type
 abbrev pub state_before : ℕ → EditedLine → State
 state_before epoch edited_line = record { groups = edited_line.old; epoch = epoch }
 
--- those after it, in the next one
+-- the state after an edit: its groups, in the next epoch
 abbrev pub state_after : ℕ → EditedLine → State
 state_after epoch edited_line = record { groups = edited_line.new; epoch = epoch + 1 }

@@ -31,6 +31,6 @@ candidate_blocks candidate =
     let blocks = two_blocks candidate.index candidate.area candidate.place in
     block_with candidate (2 * candidate.index) blocks.0 ∷ block_with candidate (2 * candidate.index + 1) blocks.1 ∷ []
 
--- those that the edit moved
+-- the blocks of a candidate that the edit moved
 abbrev pub blocks_moved : List (Option RegisterBlock) → MaybeMoved → List RankedBlock
 blocks_moved stored candidate = filter (is_moved stored) (candidate_blocks candidate)

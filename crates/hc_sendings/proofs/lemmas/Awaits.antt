@@ -246,9 +246,9 @@ new_dues : (placed : List PlacedBlock) → map block_due (map awaited_block plac
 new_dues [] = refl
 new_dues (one ∷ placed) = ap (λ (dues : List Due). block_due (awaited_block one) ∷ dues) (new_dues placed)
 
--- by what is kept
+-- by the stored state
 
--- what is kept after the write: those that stay, and among them the one that was sent
+-- the stored writes after the write: those that stay, and among them the one that was sent
 record IsAmong (history : History) (stored after : Waiting) (placed : List PlacedBlock) : Type 0 where
   before : List AwaitedWrite
   later : List AwaitedWrite
@@ -385,7 +385,7 @@ due_wrote history stored after one rest serial waits is =
     ∙ left_by history stored after placed waits is serial (found_write serial stored) refl
     ∙ sym (ap (option_map dues_of) (awaited_older history (map block_of placed) serial t)))
 
--- what is kept of the writes that carry the first owed blocks
+-- the stored writes that carry the first owed blocks
 record AreFirst (history : History) (placed : List PlacedBlock) (after : Waiting) : Type 0 where
   in_order : AllPairs Ascend after.writes
   first : All (λ write. carries_first (Wrote (map block_of placed) ∷ history) write.serial) after.writes

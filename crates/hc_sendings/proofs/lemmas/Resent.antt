@@ -1,4 +1,4 @@
--- A frame that is sent ends what it carries again: in what is kept as in the record.
+-- A frame that is sent ends the datagrams that it carries again, in the stored state as in the record.
 use Rattle.std.proofs.Common.{◌≡◌, ℕ, ◌==◌, ◌<◌, Bool, true, false, cond, not, ◌&&◌, ◌||◌, List, [], ◌∷◌, ◌++◌, filter, map, refl, sym, ap, ◌∙◌, arith, Option, Some, None}
 use Rattle.std.specs.Prelude.{All, AllPairs, find, option_and_then, option_map}
 use Rattle.std.specs.Option.{option_or}
@@ -23,7 +23,7 @@ use Rattle.hc_sendings.specs.Judging.{Due, due_of, due_with, found_frame, found_
 use Rattle.hc_sendings.proofs.lemmas.Rewritten.{IsStoredWrite, stored-write, sent-dues, some-last_sent, written-below}
 use Rattle.hc_sendings.specs.History.{KeepsAwaited, due_by, due_in, dues_of}
 
--- what is due of a sending after a frame with these datagrams; nothing where all was sent again
+-- the due datagrams of a sending after a frame with these datagrams; none if all were sent again
 
 abbrev again : List Named → Due → Due
 again frame due = record { head = due.head; last_sent = due.last_sent && not (sends due.head.item (Sent frame)) }
@@ -79,7 +79,7 @@ due_sent history first others serial =
     ∙ found_left (first ∷ others) (awaited history serial)
     ∙ sym (ap (λ b. cond b (Some (dues_of (sending_of_heads (data_heads (line_of history) (first ∷ others))))) (option_and_then (left_by (first ∷ others)) (due_by history serial))) t))
 
--- by what is kept
+-- by the stored state
 
 dues_with : (line : List Member) (frame : List Named) (carried : List AwaitedDatagram) → map (due_of line) (map (sent_again frame) carried) ≡ map (again frame) (map (due_of line) carried)
 dues_with line frame [] = refl

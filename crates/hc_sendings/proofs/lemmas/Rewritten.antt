@@ -1,4 +1,4 @@
--- Register writes that are awaited, after a later entry of the record: what is due of them by what is kept is what is due by the record.
+-- Awaited register writes after a later entry of the record: their due datagrams by the stored state are those by the record.
 use Rattle.std.proofs.Common.{◌≡◌, ◌≢◌, ℕ, ◌==◌, ◌<◌, Bool, true, false, cond, not, ◌&&◌, ◌||◌, List, [], ◌∷◌, map, refl, sym, ap, ◌∙◌, subst, Option, Some, None}
 use Rattle.std.specs.Prelude.{All, find, option_and_then, option_map}
 use Rattle.std.specs.Option.{option_or}

@@ -1,4 +1,4 @@
--- A block is under way by the record just where its last write is kept as awaited.
+-- A block is under way by the record exactly if its last write is stored as awaited.
 use Rattle.std.proofs.Common.{◌≡◌, ℕ, ◌==◌, ◌&&◌, ◌||◌, Bool, true, false, cond, not, List, [], ◌∷◌, map, refl, sym, ap, ◌∙◌, Option, Some, None}
 use Rattle.std.specs.Prelude.{All, find, option_map}
 use Rattle.std.specs.Option.{option_or}
@@ -20,7 +20,7 @@ use Rattle.hc_sendings.specs.Waiting.{AwaitedWrite, Waiting, all_writes, carries
 use Rattle.hc_sendings.proofs.lemmas.Marked.{find-each}
 use Rattle.hc_sendings.proofs.lemmas.Rewritten.{framed-plain, stored-write}
 
--- the last write of a block among those that are kept is one by the record
+-- the last write of a block among the stored ones is one by the record
 
 record IsHead (station number : ℕ) (heads : List Head) (since : List HistoryEntry) : Type 0 where
   carried : list_any (λ head. same_item (Block station number) head.item) heads ≡ true
