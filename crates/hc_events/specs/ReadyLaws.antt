@@ -85,7 +85,8 @@ ReadyStaysReady =
     → lowest_fault (groups_of (state_of history).groups) ≡ None → over_limit_task (line_of history) ≡ None
     → list_all (spares (state_of history) task) since ≡ true → is_ready history task ≡ true → is_ready (since ++ history) task ≡ true
 
--- in a project, until the next edit, a slave that was cleared holds up no task but those of its own areas, whether its blocks are written, answered, written again or not, and where it is forgotten
+-- in a project, until the next edit, a slave that was cleared holds up no task but those of its own areas, whether its blocks
+-- are written, answered, written again or not, and even if it is forgotten
 abbrev pub ClearedSlavesHoldUpTheirOwn : Type 0
 ClearedSlavesHoldUpTheirOwn =
     (since : List HistoryEntry) (history : History) (task : ℕ) (block : LineBlock) → IsReachable (since ++ Cleared block.station ∷ history)

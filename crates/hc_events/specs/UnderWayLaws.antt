@@ -29,7 +29,8 @@ FurtherIsAsAtFirst =
 abbrev pub CarriesItem : Item → Sending → Type 0
 CarriesItem item sending = list_any (λ head. same_item item head.item) sending.heads ≡ true
 
--- after one more entry a frame is awaited as before, and what it carries is out of date just where it was: so its answer is judged as before
+-- after one more entry a frame is awaited as before, and its items are out of date exactly if they were before, so that its
+-- answer is judged as before
 pub record IsLeftAwaited (history : History) (entry : HistoryEntry) (serial : ℕ) (sending : Sending) : Type 0 where
   pub there : awaited (entry ∷ history) serial ≡ Some (followed_by entry sending)
   pub judged : (item : Item) → CarriesItem item sending → is_outdated item (entry ∷ sending.since) ≡ is_outdated item sending.since

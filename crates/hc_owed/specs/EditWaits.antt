@@ -32,7 +32,8 @@ abbrev pub areas_coming : RegisterState → List RankedBlock → List JudgedArea
 areas_coming owed [] areas = areas
 areas_coming owed (moved ∷ rest) areas = areas_coming owed rest (changed_at (block_place moved / 2) (area_coming owed moved) areas)
 
--- moved blocks, in line and block order, can be counted: the counts are those of areas that are the same where a block moves
+-- moved blocks, in line and block order, can be counted: the counts are those of areas that are the same at the blocks that
+-- move
 pub record CanTallyMoved (areas : List JudgedArea) (tally : Tally) (owed : RegisterState) (moved : List RankedBlock) : Type 0 where
   pub counted : List JudgedArea
   pub tallied : Tallies counted tally

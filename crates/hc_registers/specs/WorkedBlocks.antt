@@ -96,7 +96,7 @@ same_moves = refl
 other_task_moves : moved_by one_slave (Move 1001 0 1) ≡ 2
 other_task_moves = refl
 
--- A tool of one slave and a module of seven: where a datagram's number falls, its blocks move, and no others.
+-- A tool of one slave and a module of seven: if a datagram's number falls, its blocks move, and no others.
 
 abbrev with_output : ℕ → ℕ → Slave
 with_output station bytes = slave_of station (area_of 0 Out 0x1000 (8 * bytes) None ∷ [])
