@@ -50,4 +50,6 @@ mod rings;
 #[cfg(test)]
 mod segment;
 #[cfg(test)]
+mod sendings;
+#[cfg(test)]
 mod text;
