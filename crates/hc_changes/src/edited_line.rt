@@ -136,7 +136,7 @@ impl<'a> EditedLine<'a> {
         &self.change
     }
 
-    /// True if the edit concerns the slave with a rank.
+    /// True if the edit names the slave with this rank, or the slave's group.
     pub fn is_changed(&self, rank: u16) -> bool
         ensures { result ≡ changes self.now.change rank }
     {

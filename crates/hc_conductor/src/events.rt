@@ -74,8 +74,8 @@ impl Conductor {
         self.core.arrive_into(alloc, bytes, outcomes)
     }
 
-    /// Sends the first owed register block in a frame of its own, and returns the frame's length in bytes. The frame is at the
-    /// front of `out`. It allocates nothing. Fails with the first of these; then nothing has changed, and no event is recorded:
+    /// Writes the frame of the first owed register block to the front of `out`, records it as sent, and returns its length in
+    /// bytes. It allocates nothing. Fails with the first of these; then nothing has changed, and no event is recorded:
     ///
     /// - `NothingOwed`: no block is owed.
     /// - `SerialsSpent`: no serial is left.

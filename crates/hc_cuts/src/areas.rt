@@ -7,7 +7,7 @@ use hc_records::records::{Area, Declared};
 use std::alloc::{AllocError, Global};
 use std::marker::Model;
 
-/// Returns the areas of a declared slave in the line, in record order; none if its group is not present.
+/// The areas of a declared slave in the line, in the order of its record; none if its group is not present.
 #[derive(Debug, Drop)]
 pub struct SlaveAreas<'a> {
     areas: &'a [Area],

@@ -52,8 +52,8 @@ impl Before {
     ghost use Rattle.hc_cuts.specs.Recut.{is_touched_by};
     ghost use Rattle.hc_cuts.specs.ApplyWidths.{AreLines, HasLines};
 
-    /// Returns the facts of the tasks of a line, before they are turned into those of the line that a change leads to. It
-    /// allocates nothing.
+    /// Returns the boundaries of the eight tasks of the old line, and for each task the range of keys whose widths a change
+    /// makes differ. It must be called before the tasks are changed. It allocates nothing.
     pub fn of(cuts: &LineCuts, change: &LineChange) -> Before
         requires { HasLines change.now }
         ensures { (old new : AreaLine) → AreLines change.now old new → cuts.now ≡ line_cuts old → IsKnownBefore old new result }

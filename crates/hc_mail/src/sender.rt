@@ -60,7 +60,8 @@ impl<T: Content> Sender<T> {
         Note { place }
     }
 
-    /// By a note of the receiver: all that it had seen was sent here, in that order.
+    /// Learns from a note of the receiver that the contents which the receiver had seen are the first that this end sent, in
+    /// their order. It changes nothing else, and can't fail.
     pub fn check(&mut self, note: Note<T>)
         requires { note.place.table_id ≡ self.old.place.table_id }
         ensures sent { StartsWith (seen self.new.place) (seen note.place) }

@@ -95,7 +95,7 @@ impl SyntaxFaults {
     }
 }
 
-/// A reading, or `AllocError` if an allocation fails.
+/// A value that was read with its faults, or `AllocError` if an allocation failed.
 pub type Read<T> = Result<Reading<T>, AllocError>;
 
 /// A value that was read.

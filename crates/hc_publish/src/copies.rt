@@ -5,7 +5,8 @@ use hc_events::change::GoodAnswer;
 use std::marker::Model;
 use std::sync::Mutex;
 
-/// The data that tasks read, and the prefix of the publication log at its last seal.
+/// One of the two published copies: the data that tasks read, and the part of the publication log that the last publishing to
+/// this copy had reached.
 #[derive(Drop)]
 pub struct Copy {
     pub(crate) shown: Shown,

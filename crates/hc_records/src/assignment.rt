@@ -91,7 +91,7 @@ impl Area {
         self.offered.as_slice().iter().any(|pdo| pdo.index == index)
     }
 
-    /// Returns whether one of the indexes is not offered.
+    /// True if one of these PDO indexes is not among those that the area offers.
     pub fn has_unknown(&self, indexes: &[u16]) -> bool
         ensures { result ≡ has_unknown indexes.now self.now }
     {

@@ -107,21 +107,21 @@ pub fn logical_start_bit(block: &[u8; 16]) -> u8
     block[6]
 }
 
-/// The logical stop bit: byte 7.
+/// Returns the logical stop bit of an FMMU block: byte 7.
 pub fn logical_stop_bit(block: &[u8; 16]) -> u8
     ensures { result ≡ slice_index block.now 7 }
 {
     block[7]
 }
 
-/// The physical start address: bytes 8 and 9.
+/// Returns the physical start address of an FMMU block: bytes 8 and 9.
 pub fn physical_start_address(block: &[u8; 16]) -> u16
     ensures { result ≡ word_at block.now 8 }
 {
     u16::from_le_bytes([block[8], block[9]])
 }
 
-/// The physical start bit: byte 10.
+/// Returns the physical start bit of an FMMU block: byte 10.
 pub fn physical_start_bit(block: &[u8; 16]) -> u8
     ensures { result ≡ slice_index block.now 10 }
 {

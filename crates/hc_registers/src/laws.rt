@@ -19,9 +19,9 @@ pub fn blocks_are_apart()
     ensures { BlocksAreApart }
 {}
 
-/// The expected working counter of a datagram is counted in one pass over its areas, if their keys ascend strictly, and so do
-/// ranks among which each key's is. The counter by slaves has 2 for the outputs and 1 for the inputs of each rank. It is the
-/// sum over the areas one after another: 2 or 1, and 0 after an area of the same slave and direction.
+/// The expected working counter of a datagram can be counted in one pass over its areas, if their keys and the ranks of their
+/// slaves ascend strictly. An area adds 2 if it has outputs and 1 if it has inputs. Exception: it adds 0 if the area before it
+/// has the same slave and direction.
 pub fn ascending_keys_are_counted()
     ensures { AscendingKeysAreCounted }
 {}

@@ -1,7 +1,8 @@
 //! Laws that follow from the definitions. Each function here does nothing, and its contract is a law. Nobody calls it.
 ghost use Rattle.hc_registers.specs.RankLaws.{DeclaredGroupsAddEmptyPlaces, MembersHavePlaces, PlacesHoldTheLine, RankedAreMoved};
 
-/// The blocks at the places of a project's line are the line's blocks, in line and block order.
+/// The sixteen places of each declared slave, read one after another, give the blocks of a project's line, in line and block
+/// order.
 pub fn places_hold_the_line()
     ensures { PlacesHoldTheLine }
 {}

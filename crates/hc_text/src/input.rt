@@ -41,8 +41,7 @@ impl From<AllocError> for Unread {
 }
 
 /// Reads all that a reader has left, at most `MOST_INPUT` bytes. It makes at most `MOST_INPUT` + 1 turns, whatever the reader
-/// does; an interrupted turn is repeated and counts as one. Fails with one of these; then the reader stands after the bytes
-/// that were read of it, which are lost:
+/// does; an interrupted turn is repeated and counts as one. Fails with one of these; then the bytes that were read are lost:
 ///
 /// - `Unread::TooLong`: the input is longer.
 /// - `Unread::Failed`: a read failed, or the turns ended before the input did.

@@ -71,8 +71,9 @@ impl Seat {
         })
     }
 
-    /// Learns what a note of the seat's publisher carries. The seat then knows the longer of the two lists, which begins with
-    /// the other. It allocates nothing and waits for nobody.
+    /// Learns the published changes that a note of the seat's publisher names. Of the changes that the seat knew and those of
+    /// the note, one list begins with the other, and the seat then knows the longer one. It allocates nothing and waits for
+    /// nobody.
     pub fn learn(&mut self, note: Note)
         requires { note_origin note ≡ seat_origin self.old }
         ensures one { (known self.new ≡ known self.old) ⊎ (known self.new ≡ noted_changes note) }

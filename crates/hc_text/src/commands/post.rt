@@ -9,7 +9,7 @@ use hc_records::items::Items;
 use hc_records::setting::Setting;
 use std::alloc::{AllocError, Global};
 
-/// The arguments of a `post`.
+/// The task and the values of the command `post`.
 #[derive(Debug, Drop)]
 pub struct Posting {
     /// The task; over 7 the command is refused.
