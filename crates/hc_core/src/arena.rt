@@ -79,7 +79,7 @@ impl Core {
     /// - `SerialsSpent`: too few serials are left.
     /// - `Room`: the arena is too short; the fault has the bytes needed.
     ///
-    /// `Memory` (an allocation failed) can come in place of the last two.
+    /// It fails with `Memory` if an allocation fails, and only if neither of the first two holds.
     pub fn propose_within(
         &self,
         tasks: &[u8],
@@ -119,9 +119,9 @@ impl Core {
     /// - `SerialsSpent`: too few serials are left.
     /// - `Room`: the arena is too short; the fault has the bytes needed.
     ///
-    /// `Memory` (an allocation failed) can come in place of the last two. After a failure nothing is sent, nothing has changed,
-    /// the arena is as it was, and the list is empty. A list with a capacity of 128 frames, 16 for each of the eight tasks,
-    /// needs no allocation; its capacity never falls (this project's profile).
+    /// It fails with `Memory` if an allocation fails, and only if neither of the first two holds. After a failure nothing is
+    /// sent, nothing has changed, the arena is as it was, and the list is empty. A list with a capacity of 128 frames, 16 for
+    /// each of the eight tasks, needs no allocation; its capacity never falls (this project's profile).
     pub fn send_into(
         &mut self,
         tasks: &[u8],

@@ -147,8 +147,8 @@ impl Core {
     }
 
     /// Serves an arrival of any bytes. Bytes that cannot be read as a frame are refused, even if memory is short, and nothing
-    /// changes. Otherwise the arrival is recorded; the answer to a frame of tasks has the outcome of each datagram. Fails with
-    /// `AllocError` if an allocation fails; nothing has changed then.
+    /// changes. Otherwise the arrival is recorded. If it answers a frame of tasks or one of several register writes, the answer
+    /// has the outcome of each datagram. Fails with `AllocError` if an allocation fails; nothing has changed then.
     pub(crate) fn arrive(&mut self, alloc: Global, bytes: &[u8]) -> Result<Answer, AllocError>
         ensures answer { IfOk result (λ returned. returned ≡ answer_to self.old.history (Arrives bytes.now)) }
         ensures early { IfSome (fault_in bytes.now) (λ fault. result ≡ Ok (answer.Refused (frame_refusal fault))) }

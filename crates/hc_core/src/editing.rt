@@ -36,8 +36,8 @@ fn judged_answer(report: &Report) -> Answer
 impl Core {
     /// Works an edit out for the core as it is; nothing changes. The result tells the edit's cost and the tasks that will wait.
     /// `carry_out` applies it, as long as nothing else was accepted and no change was taken. All memory of the edit is
-    /// allocated here. Fails as `edit` does: with the lowest fault whose condition holds, or with `Memory` if an allocation
-    /// fails. A fault that the edit has by itself, one of 1 to 11, is reported even if memory is short.
+    /// allocated here. Fails with the lowest fault whose condition holds, or with `Memory` if an allocation fails. A fault that
+    /// the edit has by itself, one of 1 to 11, is reported even if memory is short.
     pub fn prepare(&mut self, alloc: Global, edit: &Edit) -> Result<CoreEdit, EditFault>
         ensures made { IfOk result (λ core_edit. core_edit.core ≡ self.old) }
         ensures edit { IfOk result (λ core_edit. core_edit.edit.report.swap.edit ≡ edit.now) }

@@ -12,8 +12,9 @@ impl Core {
     /// Forgets the registers of the slave with this station address, which may have lost them, for example by a power cycle.
     /// All its register blocks become owed, and a write to it that was sent before confirms nothing. Everything else stays: the
     /// epoch, the input images, the output values, the changes, the known blocks of other slaves, and the awaited answers of
-    /// other slaves and of the tasks. Fails with `UnknownStation` if no declared slave has the address, or with `Absent` if
-    /// that slave is not in the line; nothing has changed then. It allocates nothing (this project's profile).
+    /// other slaves and of the tasks. After the next register write, the answers to earlier register writes confirm nothing.
+    /// Fails with `UnknownStation` if no declared slave has the address, or with `Absent` if that slave is not in the line;
+    /// nothing has changed then. It allocates nothing (this project's profile).
     pub fn forget(&mut self, station: u16) -> Result<(), CoreFault>
         ensures accepted { OnOk result (lowest (forget_faults self.old.history station) ≡ None) }
         ensures entries { OnOk result (self.new ≡ record self.old { history = Forgot station ∷ self.old.history }) }

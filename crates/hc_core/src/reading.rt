@@ -34,7 +34,7 @@ impl Core {
         &self.plan
     }
 
-    /// The serial of the next sending, which is the number of sendings before it.
+    /// Returns the serial of the next frame. It is the number of frames of tasks and of register writes that were sent before.
     pub fn next_serial(&self) -> u64
         ensures { result ≡ next_serial self.now.history }
     {

@@ -65,7 +65,8 @@ impl Core {
         None
     }
 
-    /// The fault that is judged before any frame is planned: `NoSuchTask`, and after it `Waits` of the first task that waits.
+    /// Checks tasks before any frame is planned. Fails with `NoSuchTask` if a number is over 7, otherwise with `Waits` of the
+    /// first task that waits.
     fn refuse_unready(&self, tasks: &[u8]) -> Result<(), CoreFault>
         ensures passed { OnOk result (lowest (early_ready_faults self.now.history tasks.now) ≡ None) }
         ensures refused { IfErr result (λ fault. lowest (early_ready_faults self.now.history tasks.now) ≡ Some fault) }
@@ -87,8 +88,9 @@ impl Core {
 
     /// Proposes the frames in which 1 to 8 distinct ready tasks would be sent next, in their order, with the next serials, and
     /// puts them into a list that is used again. A task is ready if no owed register block of the line concerns it, and no
-    /// register of a declared slave outside the line may name it (this project's profile). It sends nothing. The frames can be
-    /// filled (`fill`, `fill_part`), and committed as long as they are the present proposal (`commit`).
+    /// register of a declared slave outside the line may name it. Exception: a slave that was reported off the wire
+    /// (`unplugged`) does not count (this project's profile). It sends nothing. The frames can be filled (`fill`, `fill_part`),
+    /// and committed as long as they are the present proposal (`commit`).
     ///
     /// The earlier content of the list is dropped, the list is empty after a failure, and its capacity never falls. A list with
     /// a capacity of 128 frames, 16 for each of the eight tasks, needs no allocation. It fails with the first of these that
@@ -98,7 +100,7 @@ impl Core {
     /// - `Waits`: a task waits; the fault has the first such task.
     /// - `SerialsSpent`: too few serials are left.
     ///
-    /// `Memory` (an allocation failed) can come in place of the last one.
+    /// It fails with `Memory` if an allocation fails, and only if neither of the first two holds.
     pub fn propose_ready_into(
         &self,
         tasks: &[u8],
@@ -139,7 +141,8 @@ impl Core {
 
     /// Proposes the frames of ready tasks if an arena of `room` bytes holds all of them, and returns their bytes. Fails with the
     /// first of these: `NoSuchTask`, `Waits` and `SerialsSpent` as `propose_ready_into` does; `Room` with the bytes needed if
-    /// the arena is shorter. Fails with `Memory` if an allocation fails, and only after the first two. The list is then empty.
+    /// the arena is shorter. Fails with `Memory` if an allocation fails, and only after the first two. After a failure the list
+    /// is empty.
     fn propose_ready_within(
         &self,
         tasks: &[u8],
@@ -173,14 +176,14 @@ impl Core {
     /// them the arena is as it was. It fails with the first of these that holds:
     ///
     /// - `NoSuchTask`: a number is over 7.
-    /// - `Waits`: a task waits. The fault has the first such task, the owed blocks that concern it, and the registers outside
-    ///   the line that may name it.
+    /// - `Waits`: a task waits. The fault has the first such task, the number of owed blocks that concern it, and the number of
+    ///   registers outside the line that hold it up.
     /// - `SerialsSpent`: too few serials are left.
     /// - `Room`: the arena is too short; the fault has the bytes needed.
     ///
-    /// `Memory` (an allocation failed) can come in place of the last two. After a failure nothing is sent, nothing has changed,
-    /// the arena is as it was, and the list is empty. A list with a capacity of 128 frames, 16 for each of the eight tasks,
-    /// needs no allocation; its capacity never falls (this project's profile).
+    /// It fails with `Memory` if an allocation fails, and only if neither of the first two holds. After a failure nothing is
+    /// sent, nothing has changed, the arena is as it was, and the list is empty. A list with a capacity of 128 frames, 16 for
+    /// each of the eight tasks, needs no allocation; its capacity never falls (this project's profile).
     pub fn send_ready_into(
         &mut self,
         tasks: &[u8],

@@ -28,7 +28,7 @@ impl Core {
     /// - `Unprogrammed`: register blocks are owed; the fault has their number.
     /// - `SerialsSpent`: too few serials are left.
     ///
-    /// `Memory` (an allocation failed) can come in place of the last one.
+    /// It fails with `Memory` if an allocation fails, and only if neither of the first two holds.
     pub fn propose(&self, alloc: Global, tasks: &[u8]) -> Result<Vec<Sending>, CoreFault>
         requires { AreSentTogether tasks.now }
         ensures frames { IfOk result (λ frames. frames.items ≡ proposal self.now.history tasks.now) }
@@ -45,7 +45,7 @@ impl Core {
     }
 
     /// Proposes the frames of tasks as `propose` does, and stores them in a list that is used again. The list is emptied first,
-    /// stays empty if the tasks are refused, and its capacity never falls. With a capacity of 128 frames, 16 for each of the
+    /// stays empty after a failure, and its capacity never falls. With a capacity of 128 frames, 16 for each of the
     /// eight tasks, it needs no allocation, and the call never fails with `Memory` (this project's profile).
     pub fn propose_into(&self, tasks: &[u8], frames: &mut Vec<Sending>) -> Result<(), CoreFault>
         requires { AreSentTogether tasks.now }

@@ -35,7 +35,7 @@ fn answer_of_post(returned: Result<(), CoreFault>) -> Answer
     }
 }
 
-/// Returns the answer to a lost slave, from the result of its call.
+/// Returns the answer to forgetting a slave, from the result of its call.
 fn answer_of_forget(returned: Result<(), CoreFault>) -> Answer
     ensures { result ≡ answer_of_forget returned }
 {
@@ -258,12 +258,12 @@ impl Core {
     /// Serves events one after another, each as `step` does. The list of answers is allocated first: after `AllocError` no
     /// event was served, and nothing has changed.
     ///
-    /// The line after the events is the one that the edits among them lead to; a refused edit changes nothing. `plan` is what
-    /// configuring that line from nothing makes. A task reads, for each datagram that it has in the present line, the data of
-    /// the last good answer in the present epoch, or none if there was none. This holds between the events (`shown`) and after
-    /// them (`reads`). That answer's frame was sent in a line with the same places. A stale frame changes nothing: later
-    /// answers are as if none had come. Without the events answered `Stale` or refused with `Memory` the others have the same
-    /// answers, and lead to a history that says the same (`without`).
+    /// The line after the events is the one that the edits among them lead to; a refused edit changes nothing. `plan` then
+    /// returns the plan that configuring that line from nothing makes. A task reads, for each datagram that it has in the
+    /// present line, the data of the last good answer in the present epoch, or none if there was none. This holds between the
+    /// events (`shown`) and after them (`reads`). That answer's frame was sent in a line with the same places. A stale frame
+    /// changes nothing: later answers are as if none had come. Without the events answered `Stale` or refused with `Memory` the
+    /// others have the same answers, and lead to a history that says the same (`without`).
     pub fn run(&mut self, alloc: Global, events: &[Event<'_>]) -> Result<Vec<Answer>, AllocError>
         requires { All (λ event. IsAsked (step_of event)) events.now }
         ensures answers { IfOk result (λ answers. MayAnswerAll self.old.history (map step_of events.now) answers.items self.new.history) }

@@ -11,10 +11,10 @@ use std::mem;
 use std::snapshot::Snapshot;
 
 impl Core {
-    /// Takes the changes since they were last taken, or since the opening, in order. They are legal from the state as it was
-    /// then, and their swaps lead from its line to the present one. Each swap carries only differences: the tasks whose table
-    /// differs, and the variables whose place differs, as many as `Swap::places` returns. The core no longer stores the
-    /// changes, and the record stays. It allocates nothing: `alloc` is for the empty list that the core stores from then on.
+    /// Takes the changes since they were last taken, or since the opening, in order. Their swaps lead from the line as it was
+    /// then to the present one, and each good answer fits the line of its time. Each swap carries only differences: the tasks
+    /// whose table differs, and the variables whose place differs, as many as `Swap::places` returns. The core no longer stores
+    /// the changes, and the record stays. It allocates nothing: `alloc` is for the empty list that the core stores from then on.
     pub fn take_changes(&mut self, alloc: Global) -> Vec<Change>
         ensures updates { ShowUpdates self.old.taken self.old.history result.items }
         ensures lead { SwapsLeadFrom (state_of self.old.taken) result.items }

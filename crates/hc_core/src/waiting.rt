@@ -16,8 +16,8 @@ impl Core {
 
     /// Returns the station address of the slave with an index, from 0, among those that hold up a task, 0 to 7. First come the
     /// slaves of the line that have an owed register block which concerns the task, in line order. After them come the slaves
-    /// outside the line with a register that names it, in declared order. `None` if they are fewer: a ready task has none. It
-    /// takes the time of the declared slaves, and allocates nothing (this project's profile).
+    /// outside the line with a register that may name it, in declared order, except those off the wire. `None` if they are
+    /// fewer: a ready task has none. It takes the time of the declared slaves, and allocates nothing (this project's profile).
     pub fn held_by(&self, task: u8, n: u32) -> Option<u16>
         requires { task < TASKS }
         ensures { result ≡ held_by self.now.history task n }

@@ -85,8 +85,8 @@ impl Core {
         })
     }
 
-    /// Sends the first owed blocks in one frame with the next serial, in newly allocated memory, and returns its text and the
-    /// number of its blocks.
+    /// Sends the first owed blocks, one or as many as a frame holds, in one frame with the next serial, in newly allocated
+    /// memory. Returns its text and the number of its blocks. Fails as `write` does.
     fn write_text(&mut self, alloc: Global, most: usize) -> Result<(Items<u8>, usize), CoreFault>
         requires { IsMost most }
         ensures text { IfOk result (λ sent. sent.0 ≡ writes_text (next_serial self.old.history) (first_blocks most self.old.history)) }
@@ -155,9 +155,9 @@ impl Core {
 
     /// Sends the first owed blocks in one frame with the next serial, in the order in which they are owed: as many as the frame
     /// holds, whatever the length of `out`. The frame is at the start of `out`; its size and the number of its blocks are
-    /// returned. A frame of one block is the frame that `write_into` sends. Until it is answered, the same blocks are sent
-    /// again. It allocates nothing (ETG.1000.4, 5.3 and 5.4; this project's profile). It fails with the first of these that
-    /// holds, and nothing has changed then:
+    /// returned. A frame of one block is the frame that `write_into` sends. Blocks stay owed until a good answer comes, so that
+    /// a call before the answer sends them again. It allocates nothing (ETG.1000.4, 5.3 and 5.4; this project's profile). It
+    /// fails with the first of these that holds; nothing has changed then, and `out` is as it was:
     ///
     /// - `NothingOwed`: no block is owed.
     /// - `SerialsSpent`: no serial is left.
@@ -204,7 +204,9 @@ impl Core {
     /// number of its blocks are returned.
     ///
     /// Earlier frames stay under way, and each answer counts for its own blocks. Exception: if a slave was forgotten since the
-    /// last write, no answer to an earlier frame counts any more (ETG.1000.4, 5.3 and 5.4; this project's profile).
+    /// last write, no answer to an earlier write counts any more (ETG.1000.4, 5.3 and 5.4; this project's profile).
+    ///
+    /// It fails with the first of these that holds; nothing has changed then, and `out` is as it was:
     ///
     /// - `NothingOwed`: no block is owed.
     /// - `UnderWay`: each owed block is under way.
@@ -212,8 +214,8 @@ impl Core {
     /// - `Room`: `out` is shorter than the frame; the fault has the size needed.
     /// - `Memory`: an allocation failed.
     ///
-    /// It fails with the first of these that holds. After a failure nothing has changed, and `out` is as it was. It allocates
-    /// only if more further frames are under way than ever before, and more than two.
+    /// Memory for two such frames is allocated at the opening, and is used again. It allocates only for one more, if all of
+    /// these are under way when it is called.
     pub fn write_further_into(
         &mut self,
         alloc: Global,

@@ -8,7 +8,8 @@ use crate::task_set::TaskSet;
 /// not.
 #[derive(Clone, Copy, Debug)]
 pub enum RegisterStatus {
-    /// The slave is outside the line or has no such area: the register holds zeros or one of its contents.
+    /// The slave is outside the line or has no such area. The register concerns the tasks that its contents name, whether or not
+    /// it may hold anything else.
     Outside,
     /// The slave is outside the line and off the wire, and the contents of the register name a task.
     Unplugged,

@@ -38,7 +38,7 @@ fn area_coming(owed: &Owed, moved: &RankedBlock, area: JudgedArea) -> JudgedArea
 }
 
 /// Returns the area with an index: `last` if a block of it moved just before, otherwise the area of the list. `done` is one
-/// more than the index of the area before, or 0 if there is none.
+/// more than the index of the area in `last`, or 0 if no block moved yet.
 fn area_now(areas: &[JudgedArea], n: usize, done: usize, last: JudgedArea) -> JudgedArea
     requires { n < length areas.now }
     ensures last { n + 1 ≡ done → result ≡ last }

@@ -1,4 +1,4 @@
-//! A list of bits in words of 64, whose first set one is found by words, and which are counted.
+//! `Flags`: a list of bits in words of 64. The first set bit is found word by word, and the number of set bits is stored.
 ghost use Rattle.std.specs.Prelude.{◌≡◌, ℕ, ◌+◌, ◌-◌, ◌*◌, ◌/◌, ◌^◌, ◌<◌, ◌≤◌, ◌==◌, ◌≢◌, ◌++◌, length, replicate, MatchOption};
 ghost use Rattle.std.specs.Int.{bit_at};
 ghost use Rattle.std.specs.Int.RustNames.{count_ones};
@@ -11,7 +11,7 @@ use std::marker::Model;
 /// The bits of a word.
 const WORD_BITS: usize = 64;
 
-/// 1 for a flag that is set.
+/// Returns 1 for a flag that is set, otherwise 0.
 fn one(flag: bool) -> usize
     ensures { result ≡ one flag }
 {
@@ -87,7 +87,7 @@ fn word_count(bits: usize) -> usize
     (bits + WORD_BITS - 1) / WORD_BITS
 }
 
-/// A list of flags, each a bit. It never grows over its capacity.
+/// A list of flags, each a bit. Adding flags never allocates: `with_room` and `room_for` allocate before.
 #[derive(Debug, Drop)]
 pub(crate) struct Flags {
     words: Vec<u64>,
@@ -140,7 +140,7 @@ impl Flags {
         Room::for_more(alloc, &self.words, longer)
     }
 
-    /// Raises the capacity by `more` flags, in memory that was allocated before.
+    /// Makes the capacity suffice for `more` flags after the others, in memory that was allocated before. The list stays.
     fn widen(&mut self, room: Room<u64>, more: usize)
         requires few { length self.old.list + more < 2 ^ 32 }
         requires room { length self.old.list + more ≤ 64 * room }

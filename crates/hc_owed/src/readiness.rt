@@ -21,7 +21,7 @@ use hc_registers::ranked::{Gone, RankedBlock};
 use std::alloc::{AllocError, Global};
 use std::marker::Model;
 
-/// The logical addresses that a task has (this project's profile).
+/// The number of logical addresses that a task has (this project's profile).
 const TASK_SPAN: u32 = 0x0100_0000;
 
 /// Returns the task, 0 to 7, with the logical address at which a block's FMMU begins, if the block is an active FMMU's. None
@@ -320,7 +320,7 @@ impl Readiness {
     }
 
     /// Returns the number of registers of slaves outside the line that a task, 0 to 7, waits for: those with contents that name
-    /// it. It takes constant time.
+    /// it, except those of slaves off the wire. It takes constant time.
     pub fn outside(&self, task: u8) -> u32
         requires { task < TASKS }
         ensures { WaitsForRegisters self.now task result }
@@ -343,7 +343,8 @@ impl Readiness {
         self.tally.free()
     }
 
-    /// Returns the tasks that wait, each for some block or register. It takes the time of eight tasks.
+    /// Returns the tasks that wait, each for some block or register. The same tasks wait once a group is declared. It takes the
+    /// time of eight tasks.
     pub fn waiting_tasks(&self) -> TaskSet
         ensures now { AreWaiting self.now result }
         ensures declared { ForetellsDeclared self.now result }

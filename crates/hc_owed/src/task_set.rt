@@ -46,7 +46,7 @@ impl TaskSet {
         }
     }
 
-    /// Returns the set with a task, 0 to 7, if it is to be added.
+    /// Returns the set with a task, 0 to 7, if `added` is true, otherwise the set as it is.
     pub fn with_task(self, task: u8, added: bool) -> TaskSet
         requires { task < TASKS }
         ensures { result ≡ tasks_where (λ other. has_task other self || (added && task == other)) }

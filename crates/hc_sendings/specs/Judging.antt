@@ -12,7 +12,8 @@ use Rattle.hc_events.specs.Answering.{Judged, Verdict, Good, Wrong, Stale, has_h
 use Rattle.hc_sendings.specs.declared.writes.AwaitedBlock.{AwaitedBlock}
 use Rattle.hc_sendings.specs.Waiting.{AwaitedFrame, AwaitedWrite, AwaitedDatagram, Waiting, all_writes}
 
--- a due datagram, of a task or of a register block: its head in the sending, and whether it was not sent again since
+-- a due datagram, of a task or of a register block: its head in the sending, and whether this is still its newest sending. It is
+-- not if the datagram was sent again since, or if the block's slave was forgotten
 pub record Due : Type 0 where
   pub head : Head
   pub last_sent : Bool
@@ -62,7 +63,8 @@ abbrev pub due_with : List Member → Waiting → ℕ → Option (List Due)
 due_with line waiting serial =
     option_or (option_map write_due (found_write serial waiting)) (option_map (frame_due line) (found_frame serial waiting))
 
--- the verdict on a datagram that came back: stale if it was sent again, otherwise good or wrong by its working counter
+-- the verdict on a datagram that came back: stale if this is not its newest sending, otherwise good or wrong by its working
+-- counter
 abbrev pub verdict_of : Due → Part → Verdict
 verdict_of due part = if due.last_sent then (if part.counter == due.head.expected then Good else Wrong) else Stale
 

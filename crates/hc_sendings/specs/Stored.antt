@@ -77,6 +77,6 @@ awaited_of last_sent frames = filter (λ frame. is_still_awaited (frame_by last_
 abbrev pub SerialsAreBelow : List Frame → List StoredFrame → Type 0
 SerialsAreBelow more frames = All (λ old. All (λ next. old.serial < next.serial) more) frames
 
--- the serial of the newest frame of a datagram, once these were sent with one
+-- the serial of the newest frame of a datagram, once these datagrams were sent in a frame with a serial
 abbrev pub serial_noted : Named → List Named → ℕ → Option ℕ → Option ℕ
 serial_noted named datagrams serial before = if list_any (is_named named) datagrams then Some serial else before

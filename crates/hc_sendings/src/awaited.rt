@@ -25,10 +25,10 @@ pub const FRAME_DATAGRAMS: usize = 115;
 pub const AWAITED_WRITES: usize = 2;
 
 /// The frames of tasks and the register writes that are awaited. Contracts see a `Waiting`. It has the frames in the order in
-/// which they were sent, and for each datagram a flag if this is its newest frame. It has the writes of the first owed blocks
-/// and those of further ones, each in their order, and for each block a flag if this is its newest write. It has a flag if a
-/// slave was forgotten since the last write. A frame that is the newest of no datagram is awaited no longer, so there are at
-/// most as many as datagrams, 128. A write that is the newest of no block is awaited no longer.
+/// which they were sent, and tells for each datagram if this is its newest frame. It has the writes of the first owed blocks
+/// and those of further ones, each in their order, and tells for each block if this is its newest write. It tells if a slave
+/// was forgotten since the last write. A frame that is the newest of no datagram is awaited no longer, so there are at most as
+/// many as datagrams, 128. A write that is the newest of no block is awaited no longer.
 #[derive(Debug)]
 pub struct Awaited {
     pub(crate) last_sent: LastSent,
@@ -64,7 +64,7 @@ impl Model for Awaited {
     ghost invariant = { λ awaited. AreStored awaited.last_sent awaited.frames.items × (SLOTS ≤ vec_capacity awaited.frames) };
 }
 
-/// Notes each frame as the newest of its datagrams, the last one last.
+/// Notes each frame as the newest of its datagrams. If several frames have a datagram, the last of them is its newest.
 fn note_all(last_sent: &mut LastSent, frames: &[Sending])
     requires { All (λ frame. All IsTaskDatagram frame.datagrams) frames.now }
     ensures noted { (named : Named) → IsTaskDatagram named → last_sent_of last_sent.new named ≡ last_sent_after named (last_sent_of last_sent.old named) frames.now }
@@ -233,8 +233,8 @@ impl Awaited {
     ghost use Rattle.hc_sendings.specs.Judging.{blocks_with, found_write};
     ghost use Rattle.hc_sendings.specs.Waiting.{ComeAfter, IsTaskDatagram, all_sent, awaited_block, ended, forgot, is_newest_awaited, left_after, nothing, older_writes, wrote, wrote_further};
 
-    /// Returns a state in which nothing is awaited. All memory but that of more than two further frames is allocated here.
-    /// Fails with `AllocError` if an allocation fails.
+    /// Returns a state in which nothing is awaited, with all its memory. Exception: `write_further` allocates if more than two
+    /// frames of further blocks are awaited. Fails with `AllocError` if an allocation fails.
     pub fn new(alloc: Global) -> Result<Awaited, AllocError>
         ensures { IfOk result (λ awaited. awaited ≡ nothing) }
     {
@@ -273,7 +273,8 @@ impl Awaited {
         add_all(&mut self.frames, &self.last_sent, frames);
     }
 
-    /// Ends the writes of the first owed blocks that a write of these blocks replaces. The others stay.
+    /// Ends the writes of first owed blocks that are the newest of no other block, once these blocks are sent. It ends all of
+    /// them if a slave was forgotten since the last write.
     #[inline(always)]
     fn retire(&mut self, again: &[PlacedBlock])
         ensures { self.new ≡ record self.old { writes = older_writes (map awaited_block again.now) self.old } }
@@ -285,9 +286,9 @@ impl Awaited {
         }
     }
 
-    /// Records one frame of the first owed register blocks, at most 74, which is awaited from then on. Older writes of these
-    /// blocks are no longer awaited, and no older write is if a slave was forgotten since the last write. The caller ensures
-    /// that at most one older write of first owed blocks stays awaited. It allocates nothing.
+    /// Records one frame of the first owed register blocks, at most 74, which is awaited from then on. An older write stays
+    /// awaited only for its other blocks. Exception: no older write does if a slave was forgotten since the last write. The
+    /// caller ensures that at most one older write of first owed blocks stays awaited. It allocates nothing.
     #[inline(always)]
     pub fn write(&mut self, serial: u64, blocks: &[PlacedBlock])
         requires few { length blocks.now ≤ FRAME_BLOCKS }
@@ -300,10 +301,10 @@ impl Awaited {
         self.forgotten = false;
     }
 
-    /// Records one frame of further register blocks, at most 74, which is awaited from then on, beside all older frames. Older
-    /// writes of these blocks are no longer awaited, and no older write is if a slave was forgotten since the last write. It
-    /// allocates only if more further frames are awaited than ever before, and more than two. Fails with `AllocError` if an
-    /// allocation fails; nothing has changed then.
+    /// Records one frame of further register blocks, at most 74, which is awaited from then on. An older write stays awaited
+    /// only for its other blocks. Exception: no older write does if a slave was forgotten since the last write. Memory for two
+    /// further frames is allocated at the opening, and is used again. It allocates only for one more, if all of these are
+    /// awaited when it is called. Fails with `AllocError` if an allocation fails; nothing has changed then.
     pub fn write_further(
         &mut self,
         alloc: Global,

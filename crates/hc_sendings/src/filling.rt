@@ -79,7 +79,7 @@ fn write_own<D: SentData>(out: &mut [u8], serial: u64, datagrams: &[Named], task
     }
 }
 
-/// Returns a number of bytes if the first of these datagrams is of a task, else 0.
+/// Returns `bytes` if the first of these datagrams is one of the task's, otherwise 0.
 fn first_share(datagrams: &[Named], task: u8, bytes: usize) -> usize
     ensures bytes { result ≡ share task bytes (slice_get datagrams.now 0) }
     ensures most { result ≤ bytes }
@@ -87,7 +87,7 @@ fn first_share(datagrams: &[Named], task: u8, bytes: usize) -> usize
     share(task, bytes, datagrams.first().copied())
 }
 
-/// Returns a number of bytes if the last of these datagrams is of a task, else 0.
+/// Returns `bytes` if the last of these datagrams is one of the task's, otherwise 0.
 fn last_share(datagrams: &[Named], task: u8, bytes: usize) -> usize
     ensures bytes { result ≡ share task bytes (slice_get datagrams.now (length datagrams.now - 1)) }
     ensures most { result ≤ bytes }

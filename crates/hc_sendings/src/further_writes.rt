@@ -102,8 +102,8 @@ fn any_carries(writes: &[Write], station: u16, number: u8) -> bool
     false
 }
 
-/// The awaited frames of further register blocks, in the order in which they were sent. Contracts see the list of them. A slot
-/// whose write is awaited no longer is used again.
+/// The awaited frames of further register blocks, in the order in which they were sent, each in a slot. Contracts see the list
+/// of the frames. A slot whose frame is awaited no longer is used again.
 #[derive(Debug, Drop)]
 pub(crate) struct FurtherWrites {
     writes: Vec<Write>,
@@ -151,9 +151,9 @@ impl FurtherWrites {
     }
 
     /// Adds a further frame of these blocks, at most 74, after the others. It ends the writes that are the newest of no other
-    /// block, or all of them if `is_over`, which means that a slave was forgotten since the last write. It allocates only if
-    /// more frames are awaited than ever before, and more than two. Fails with `AllocError` if an allocation fails; the writes
-    /// are as before then.
+    /// block, or all of them if `is_over`, which means that a slave was forgotten since the last write. There are two slots at
+    /// first. It allocates only for one more, if each has an awaited frame when it is called. Fails with `AllocError` if an
+    /// allocation fails; the writes are as before then.
     pub(crate) fn send(
         &mut self,
         alloc: Global,

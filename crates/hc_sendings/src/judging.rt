@@ -223,8 +223,8 @@ impl Awaited {
     ghost use Rattle.hc_sendings.specs.Waiting.{AllAreInLine};
     ghost use Rattle.hc_sendings.specs.Judging.{judged_in};
 
-    /// Judges an arrival by the frame or write that is awaited with its serial; that is one of the plan's line. The results
-    /// are:
+    /// Judges an arrival by the frame or write that is awaited with its serial. The awaited frames are of the plan's line. The
+    /// results are:
     ///
     /// - `Stale`: nothing is awaited with its serial, or a datagram is missing or left over, or came back with another command,
     ///   address or length.

@@ -1,5 +1,5 @@
-//! `LastWrites`: the awaited frames of the first owed register blocks. They are the last one that was sent, and the one before
-//! it if that can still be answered. `Awaited` stores them.
+//! `LastWrites`: the awaited frames of the first owed register blocks, at most two: the last one that was sent and an older one,
+//! each as long as it may still be answered. `Awaited` stores them.
 use crate::write_frames::PlacedBlock;
 use crate::writes::{AwaitedBlock, Write};
 use std::alloc::{AllocError, Global};

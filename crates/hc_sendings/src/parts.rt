@@ -50,7 +50,7 @@ fn own_share(plan: &Plan, datagrams: &[Named], task: u8) -> usize
     bytes
 }
 
-/// Returns a number of bytes if there is the datagram and it is of the task, else 0.
+/// Returns `bytes` if there is a datagram and it is one of the task's, otherwise 0.
 pub(crate) fn share(task: u8, bytes: usize, datagram: Option<Named>) -> usize
     ensures bytes { result ≡ share task bytes datagram }
     ensures most { result ≤ bytes }

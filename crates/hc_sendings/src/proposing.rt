@@ -27,7 +27,8 @@ fn names_no_task(tasks: &[u8]) -> bool
     tasks.iter().any(|task| !(*task < TASKS))
 }
 
-/// The fault that is judged before any frame is planned: `NoSuchTask`, and after it `Unprogrammed`.
+/// Checks tasks before any frame is planned. Fails with `NoSuchTask` if a number is over 7, otherwise with `Unprogrammed` if
+/// register blocks are owed, `owed` of them.
 fn refuse_early(owed: u32, tasks: &[u8]) -> Result<(), CoreFault>
     ensures passed { OnOk result (lowest (early_faults owed tasks.now) ≡ None) }
     ensures refused { IfErr result (λ fault. lowest (early_faults owed tasks.now) ≡ Some fault) }
@@ -80,7 +81,7 @@ fn plan_frames(
 /// - `Unprogrammed`: register blocks are owed, `owed` of them.
 /// - `SerialsSpent`: the frames need more serials than are left.
 ///
-/// `Memory` (an allocation failed) can come in place of the last one.
+/// It fails with `Memory` if an allocation fails, and only if neither of the first two holds.
 #[inline(always)]
 pub fn propose_into(
     plan: &Plan,

@@ -17,7 +17,7 @@ use std::marker::Model;
 /// A block of the line, with its place, by which its write is confirmed.
 #[derive(Debug, Drop)]
 pub struct PlacedBlock {
-    /// Its place.
+    /// Its place among the blocks of all declared slaves: sixteen for each slave by rank, one for each block number.
     pub place: u32,
     /// The block.
     pub block: LineBlock,
@@ -73,8 +73,8 @@ fn write_datagrams(out: &mut [u8], serial: u64, blocks: &[PlacedBlock])
     }
 }
 
-/// Fills the 44 bytes after the head of a frame of the least size with zeros, before its datagrams are written. They are
-/// written without a call, and the padding needs no further one. A longer frame stays as it is.
+/// Fills the 44 bytes after the head of a frame of the least size with zeros, before its datagrams are written. The padding then
+/// needs no fill of its own, and a fill of constant size needs no function call. A longer frame stays as it is.
 #[inline(always)]
 fn clear_least(rest: &mut [u8])
     ensures size { length rest.new ≡ length rest.old }

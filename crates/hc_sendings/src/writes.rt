@@ -39,7 +39,7 @@ fn is_among(block: &AwaitedBlock, placed: &[PlacedBlock]) -> bool
     placed.iter().any(|other| is_same(block, &other.awaited()))
 }
 
-/// A block of an older write after a write of these blocks.
+/// Returns a block of an older write as it is after a write of these blocks: no longer the newest if it is among them.
 fn written_again(block: &AwaitedBlock, again: &[PlacedBlock]) -> AwaitedBlock
     ensures { result ≡ written_again (map awaited_block again.now) block.now }
 {
@@ -49,7 +49,7 @@ fn written_again(block: &AwaitedBlock, again: &[PlacedBlock]) -> AwaitedBlock
     }
 }
 
-/// A block of a write after the slave with a station address was forgotten.
+/// Returns a block of a write as it is after the slave with a station address was forgotten: not the newest if it is the slave's.
 fn forgotten(block: &AwaitedBlock, station: u16) -> AwaitedBlock
     ensures { result ≡ block_forgotten station block.now }
 {
@@ -121,7 +121,7 @@ fn put_blocks(blocks: &mut Vec<AwaitedBlock>, placed: &[PlacedBlock])
 
 /// A frame of register writes as long as it is awaited: its serial, and its blocks in order, at most 74. Each block has at
 /// least 8 bytes, 20 with its header and its working counter, and 1,498 bytes follow the EtherCAT header (ETG.1000.4, 5.3 and
-/// 5.4). Contracts see a list of this frame, or of none. Its memory is allocated when it is made.
+/// 5.4). Contracts see a list of this frame if it is awaited, otherwise an empty one. Its memory is allocated when it is made.
 #[derive(Debug, Drop)]
 pub(crate) struct Write {
     serial: u64,

@@ -72,9 +72,9 @@ fn datagrams_bytes<D: SentData>(whole: usize, datagrams: &[Named], sent: &D) -> 
     }
 }
 
-/// Writes a frame of tasks into a slice of its exact size: at least 60 bytes, and 16 more than its datagrams have with their
-/// headers and counters, which are at most 1,498. Each datagram carries the data that `sent` has of it, and each but the last
-/// tells that more follow. The serial is below 2^40. It allocates nothing.
+/// Writes a frame of tasks into a slice of its exact size. The size is 16 bytes more than its datagrams have with their headers
+/// and counters, which are at most 1,498; a frame under 60 bytes is padded to 60. Each datagram carries the data that `sent` has
+/// of it, and each but the last tells that more follow. The serial is below 2^40. It allocates nothing.
 #[inline(always)]
 pub fn write_frame<D: SentData>(out: &mut [u8], frame: &Sending, sent: &D)
     requires serial { frame.now.serial < 2 ^ 40 }

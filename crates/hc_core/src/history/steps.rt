@@ -52,7 +52,7 @@ impl HistoryGhost {
         HistoryGhost::Wrote(Snapshot::of(self), Snapshot::of(frame))
     }
 
-    /// Returns this record with an arrival after it, if its bytes can be read.
+    /// Returns this record with an arrival after it, or unchanged if the arrival's bytes cannot be read as a frame.
     pub fn came(&self, bytes: &[u8]) -> HistoryGhost
         ensures { history_read result ≡ with_arrival (history_read self.now) (arrival_in bytes.now) }
     {
