@@ -22,7 +22,7 @@ serial_chosen true true serial so_far = refl
 serial_chosen true false serial so_far = refl
 serial_chosen false any serial so_far = refl
 
--- the serial after good answers is the new one exactly if one of these is of the datagram
+-- the serial after good answers: the new one if one of these is of the datagram, otherwise the one before
 dated_by : (serial task d : ℕ) (so_far : Option ℕ) (answers : List NewAnswer) → fold (dated serial task d) so_far answers ≡ cond (list_any (is_for task d) answers) (Some serial) so_far
 dated_by serial task d so_far [] = refl
 dated_by serial task d so_far (good ∷ answers) = dated_by serial task d (dated serial task d so_far good) answers ∙ serial_chosen (is_for task d good) (list_any (is_for task d) answers) serial so_far

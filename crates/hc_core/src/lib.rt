@@ -1,5 +1,6 @@
-//! The core: it answers the master's edits, posts, sendings, register writes, arrivals and reads, and records those that it
-//! accepts. The meaning of an event is this project's profile, over frames of ETG.1000.4.
+//! The core: it answers the master's events, and records those that it accepts. Events are edits, posts, sendings, register
+//! writes, arrivals, reports on slaves, and reads; reads are not recorded. The meaning of an event is this project's profile,
+//! over frames of ETG.1000.4.
 #![tactic(auto)]
 
 mod adding;

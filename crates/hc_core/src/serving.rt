@@ -206,9 +206,9 @@ impl Core {
     }
 
     /// Serves an event. The answer is that of the definition (`answer_to`) for the history of accepted events, and an accepted
-    /// event is recorded. Exception: an event that allocates may answer `Memory`; nothing has changed then. Tasks that are sent
-    /// together are 1 to 8 and distinct. These faults are judged before memory is allocated, and reported even if it is short
-    /// (`early_fault`):
+    /// event other than a read is recorded. Exception: an event that allocates may answer `Memory`; nothing has changed then.
+    /// Tasks that are sent together are 1 to 8 and distinct. These faults are judged before memory is allocated, and reported
+    /// even if it is short (`early_fault`):
     ///
     /// - of an edit, a fault that it has by itself, one of 1 to 11;
     /// - of tasks to be sent, that a task does not exist, that blocks are owed, or that one waits;

@@ -291,7 +291,7 @@ module _ (areas : List JudgedArea) (gone : Gone) (moved : List RankedBlock) (is 
       let one = contains-unkept (λ (block : RankedBlock). not (list_any (same_block block.found) (line_blocks (line is.old)))) (ranked_blocks (line is.new)) m (subst (λ (l : List RankedBlock). Contains l m) is.blocks has) in
       not-true (list_any (same_block m.found) (line_blocks (line is.old))) one.1
 
-  -- the case that the edit leaves the task
+  -- the case that the edit does not change the task
 
   module _ (left : leaves_task areas gone t ≡ false) (stays : list_any (moves_task areas t) moved ≡ false) where
     -- the area of a block that moves wasn't in the task

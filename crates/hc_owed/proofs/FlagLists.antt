@@ -294,7 +294,8 @@ one-bit n = by (n % 2) (omega arith)
     by (suc zero) low = refl
     by (suc (suc bit)) low = absurd (omega (arith, low))
 
--- so many places from one on have no more set flags than the word has from there on, and as many if they are all
+-- so many places from one on have at most as many set flags as the word has bits set from there on, and exactly as many if they
+-- reach to the word's end
 ones-from : (words : List ℕ) (at count j : ℕ) → j + count ≤ 64 → set_count (flags_from words count (64 * at + j)) ≤ count_ones (slice_index words at / 2 ^ j)
 ones-from words at zero j low = omega arith
 ones-from words at (suc count) j low =

@@ -190,7 +190,8 @@ pairs-line rank (d ∷ groups) slave has =
           (one.0, Contains-append_right (members_from rank (cond d.present d.group.slaves [])) (line_from next groups) one.0 one.1, one.2)
     ]
 
--- slaves of the line pass a test of their station addresses if all that pass are in the line, and so do those outside it
+-- the declared slaves that pass a test of their station addresses: those of the line that pass it if none outside it does, and
+-- those outside the line that pass it if none of the line does
 
 filter-joined : {X : Type 0} (p : X → Bool) (xs ys : List X) → filter p (xs ++ ys) ≡ filter p xs ++ filter p ys
 filter-joined p [] ys = refl

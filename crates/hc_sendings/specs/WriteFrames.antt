@@ -1,4 +1,4 @@
--- A frame of register writes, as the core fills it: the first owed blocks, each with its place.
+-- A frame of register writes, as the core fills it: owed blocks in order, each with its place.
 use Rattle.std.specs.Prelude.{◌≡◌, ℕ, ◌+◌, ◌*◌, ◌≤◌, List, [], ◌∷◌, ◌++◌, length, map}
 use Rattle.hc_registers.specs.Blocks.{LineBlock}
 use Rattle.hc_frames.specs.declared.limits.TheConstants.{MAX_ETHERCAT}

@@ -1,5 +1,5 @@
-//! `WriteFrame`: a frame of register writes, with the owed blocks that share it. The core fills it from the first owed block
-//! on, writes it, and hands its blocks to `Awaited`.
+//! `WriteFrame`: a frame of register writes, with the owed blocks that share it. The core fills it with the first owed blocks,
+//! or with the first ones whose newest write is not awaited. It then writes the frame, and hands its blocks to `Awaited`.
 ghost use Rattle.std.specs.Prelude.{◌≡◌, ◌+◌, ◌≤◌, length, map, replicate};
 ghost use Rattle.hc_frames.specs.FrameText.{sent_datagrams_text};
 ghost use Rattle.hc_frames.specs.declared.limits.TheConstants.{MAX_ETHERCAT};
@@ -85,7 +85,7 @@ fn clear_least(rest: &mut [u8])
     }
 }
 
-/// The first owed blocks, in order, that share a frame. Its capacity is the 74 blocks that a frame holds at most.
+/// The owed blocks, in order, that share a frame. Its capacity is the 74 blocks that a frame holds at most.
 #[derive(Debug, Drop)]
 pub struct WriteFrame {
     // the bytes of its datagrams, with their headers and their counters

@@ -1,4 +1,4 @@
--- Forgotten slaves since an awaited register write: there is one if one was forgotten since the last write.
+-- A slave was forgotten since an awaited register write exactly if one was forgotten since the last write.
 use Rattle.std.proofs.Common.{◌≡◌, ℕ, ◌==◌, Bool, true, false, cond, ◌||◌, List, [], ◌∷◌, filter, refl, sym, ap, ◌∙◌, subst, Option, Some, None}
 use Rattle.std.specs.Prelude.{option_and_then, option_map}
 use Rattle.std.specs.List.{list_any}
