@@ -214,8 +214,8 @@ impl Core {
     /// - `Room`: `out` is shorter than the frame; the fault has the size needed.
     /// - `Memory`: an allocation failed.
     ///
-    /// Memory for two such frames is allocated at the opening, and is used again. It allocates only for one more, if all of
-    /// these are under way when it is called.
+    /// Memory for two frames of this call is allocated at the opening, and is used again. It allocates only for one more, if
+    /// all of these frames are under way when it is called.
     pub fn write_further_into(
         &mut self,
         alloc: Global,
