@@ -431,8 +431,8 @@ ZANGJULF_CHECKED uint8_t zangjulf_next_writes(struct zangjulf *handle, uint8_t *
  * holds. A block is under way as long as the answer to its last write may still come: no edit was accepted since, its slave was not
  * lost or cleared, and the frame did not come back. So several frames can be under way, and each answer counts for its own blocks.
  * Exception: once a slave was lost or cleared, the next frame of register writes of any call takes the place of all earlier ones.
- * If a frame does not come back in time, `zangjulf_next_writes` sends its blocks again. Room for two such frames under way is made by
- * `zangjulf_open`; only a third one, and each more than ever before, allocates.
+ * If a frame does not come back in time, `zangjulf_next_writes` sends its blocks again. `zangjulf_open` makes slots for
+ * two such frames. A call that finds no free slot allocates one more, which stays.
  *
  *   NOTHING_OWED   no register block is owed
  *   UNDER_WAY      each owed block is under way

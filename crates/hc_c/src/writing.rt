@@ -124,11 +124,12 @@ pub extern "C" fn zangjulf_next_writes(
 /// Sends the first owed register blocks that are not under way in one frame, with the next serial and in the order in which
 /// they are owed: as many as a frame holds, whatever the length of `out`. A block is under way as long as the answer to its
 /// last write may still come. Earlier frames stay under way, and each answer counts for its own blocks. Exception: once a slave
-/// was lost or cleared, no answer to a frame sent before that counts any more.
+/// was lost or cleared, the next frame of register writes of any call takes the place of all earlier ones, and no answer to
+/// those counts any more.
 ///
 /// Returns `DONE`: the frame is at the front of `out`, and `writes` has its length and the number of its blocks (ETG.1000.4,
-/// 5.3 and 5.4; this project's profile). It allocates only if more such frames are under way than ever before, and more than
-/// two. Fails with the first of these; then nothing has changed:
+/// 5.3 and 5.4; this project's profile). It allocates only if none of the slots for such frames is free at the call; there are
+/// two slots from the opening on, and one more after each allocation. Fails with the first of these; then nothing has changed:
 ///
 /// - `BUSY`, `CLOSED` or `MISUSED`.
 /// - `NothingOwed`, 18: no block is owed.

@@ -115,9 +115,9 @@ impl Conductor {
     /// Sends the first owed register blocks that are not under way in one frame, in the order in which they are owed: as many
     /// as a frame holds, whatever the length of `out`. A block is under way as long as the answer to its last write may still
     /// come; `next_writes` sends it again. Returns the frame's length and the number of its blocks, at most 74; the frame is at
-    /// the front of `out` (ETG.1000.4, 5.3 and 5.4; this project's profile). It allocates only if more such frames are under
-    /// way than ever before, and more than two. Fails with the first of these; then nothing has changed, and no event is
-    /// recorded:
+    /// the front of `out` (ETG.1000.4, 5.3 and 5.4; this project's profile). It allocates only if none of the slots for such
+    /// frames is free at the call, two slots from the opening on and one more after each allocation. Fails with the first of
+    /// these; then nothing has changed, and no event is recorded:
     ///
     /// - `NothingOwed`: no block is owed.
     /// - `UnderWay`: each owed block is under way.

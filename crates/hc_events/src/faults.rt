@@ -114,7 +114,7 @@ pub enum CoreFault {
     #[error("too many slaves would be declared")]
     TooManySlaves,
     /// The task waits, so it is not sent: register blocks of the line that concern it are owed, or registers of slaves
-    /// outside the line may name it.
+    /// that are outside the line and may be on the wire name it, or may name it.
     #[error("task {task} waits for {blocks} register blocks and {outside} registers outside the line")]
     Waits {
         /// The first task in the given order that waits, 0 to 7.

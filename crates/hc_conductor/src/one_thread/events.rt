@@ -88,7 +88,7 @@ impl Master {
 
     /// Sends the first owed register blocks that are not under way in one frame, in the order in which they are owed: as many
     /// as a frame holds, whatever the length of `out`. Returns the frame's length and the number of its blocks, at most 74; the
-    /// frame is at the front of `out`. It allocates only if more such frames are under way than ever before, and more than two.
+    /// frame is at the front of `out`. It allocates only if no slot for such a frame is free, as the conductor's does.
     /// The faults are those of the conductor's `next_further`; then nothing has changed.
     pub fn next_further(&mut self, alloc: Global, out: &mut [u8]) -> Result<SentWrites, CoreFault>
         ensures written { IfOk result (HoldsFurther (master_history self.old) out.old out.new) }
