@@ -233,8 +233,8 @@ impl Awaited {
     ghost use Rattle.hc_sendings.specs.Judging.{blocks_with, found_write};
     ghost use Rattle.hc_sendings.specs.Waiting.{ComeAfter, IsTaskDatagram, all_sent, awaited_block, ended, forgot, is_newest_awaited, left_after, nothing, older_writes, wrote, wrote_further};
 
-    /// Returns a state in which nothing is awaited, with all its memory. Exception: `write_further` allocates if more than two
-    /// frames of further blocks are awaited. Fails with `AllocError` if an allocation fails.
+    /// Returns a state in which nothing is awaited, with all its memory. Exception: `write_further` allocates if none of
+    /// its two slots for frames of further blocks is free. Fails with `AllocError` if an allocation fails.
     pub fn new(alloc: Global) -> Result<Awaited, AllocError>
         ensures { IfOk result (λ awaited. awaited ≡ nothing) }
     {
