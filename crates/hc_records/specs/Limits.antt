@@ -43,7 +43,7 @@ pub record Reaches (area : Area) (byte : ℕ) : Type 0 where
   pub from : area.phys ≤ byte
   pub below : byte < area.phys + reach area
 
--- two areas may take no byte in common
+-- no byte is one that both areas may take
 abbrev pub KeepApart : Area → Area → Type 0
 KeepApart a b = (byte : ℕ) → Reaches a byte → ¬ (Reaches b byte)
 

@@ -7,8 +7,8 @@ use Rattle.hc_groups.specs.Edits.{own_fault}
 use Rattle.hc_places.specs.Table.{Table, table_of}
 use Rattle.hc_changes.specs.EditedLine.{EditedLine, IsEditedLine}
 
--- an edit without a fault of its own, one that declares no group, makes this of a line that has a table, and none of whose tasks is over
--- its limit
+-- an edit that declares no group and has no fault of its own leads from the old groups to the new ones of an edited line; the table is the old
+-- line's, and no task of the old line is over its limit
 pub record Makes (edit : Edit) (table : Table) (edited_line : EditedLine) : Type 0 where
   pub is : IsEditedLine edited_line
   pub changes : declares edit ≡ false
