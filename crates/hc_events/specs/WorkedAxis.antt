@@ -45,7 +45,7 @@ written_at station register size counter = record {
   counter = counter;
 }
 
--- and the frame of one from the axis
+-- the frame of one register write that comes back from the axis
 abbrev pub write_back : ℕ → ℕ → ℕ → ℕ → Step
 write_back serial register size counter = back serial (written_at 1001 register size counter ∷ [])
 
