@@ -79,7 +79,7 @@ SwapsLeadFrom state (change.Swapped swap ∷ changes) =
     × SwapsLeadFrom (state_after state swap.edit) changes
 SwapsLeadFrom state (change.Good good ∷ changes) = SwapsLeadFrom state changes
 
--- these are the changes that a record of a project gives
+-- a list of changes is one that a record of a project gives: it has the record's updates, and each swap leads to the next state's table
 pub record AreChangesOf (groups : List Group) (history : History) (changes : List Change) : Type 0 where
   pub updates : map update_in changes ≡ updates_of history
   pub lead : SwapsLeadFrom (opened groups) changes

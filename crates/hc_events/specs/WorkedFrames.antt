@@ -62,7 +62,7 @@ each_by_itself : answers_to sent_again (back 7 (first_back 1 ∷ second_back 2 �
 unfolding bit_of number_of starts_within
 each_by_itself = refl
 
--- and a frame whose datagrams are exchanged, left out or repeated answers nothing and uses up nothing
+-- a frame whose datagrams are exchanged, left out or repeated answers nothing and uses up nothing
 
 other_lists : answers_to sent_again (
     back 7 (second_back 2 ∷ first_back 1 ∷ [])

@@ -85,8 +85,8 @@ pub fn wires_stay_carrying()
     ensures { HoldsForTasks WiresStayCarrying }
 {}
 
-/// Simulated slaves exchange a task's data if each has the FMMU blocks of its areas in the task, and none of its other FMMUs
-/// maps a logical bit of the task's datagrams. Blocks of other tasks need not be written.
+/// Machines carry a task if each has the FMMU blocks of its slave's areas in the task, and none of its other FMMUs pairs a
+/// logical bit of the task's datagrams. Blocks of other tasks need not be written.
 pub fn task_blocks_carry()
     ensures { TaskBlocksCarry }
 {}

@@ -19,7 +19,7 @@ pub record Makes (edit : Edit) (table : Table) (edited_line : EditedLine) : Type
 
 -- the states before an edit of a line and after it, by the epoch that the line has before it
 
--- the groups before the edit, in this epoch
+-- the state before an edit: its groups, in this epoch
 abbrev pub state_before : ℕ → EditedLine → State
 state_before epoch edited_line = record { groups = edited_line.old; epoch = epoch }
 
