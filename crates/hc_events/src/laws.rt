@@ -351,8 +351,8 @@ pub fn histories_without_forgetting()
     ensures { HistoriesWithoutForgetting }
 {}
 
-/// If no slave is lost and no frame of several writes is sent, the definitions without these two events give each event the
-/// same answer, and the same history.
+/// If all events are edits, posts, sendings of tasks, register writes of one block each, arrivals and reads, the definitions
+/// without the other events give each event the same answer, and the same history.
 pub fn events_without_forgetting()
     ensures { EventsWithoutForgetting }
 {}

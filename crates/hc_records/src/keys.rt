@@ -23,7 +23,7 @@ impl Key {
         area: 0,
     };
 
-    /// Above the key of every area.
+    /// Above the key of every area of a project.
     pub const END: Key = Key {
         dir: Dir::In,
         rank: u16::MAX,
