@@ -146,8 +146,8 @@ impl SumTree {
         })
     }
 
-    /// Sets the width in bits of an area, at most 11,888. The area's slave is one of those for which the tree has places. An area
-    /// of 0 bits is not in the tree's list of areas, which is a task's list after it too. It allocates nothing.
+    /// Sets the width in bits of an area, at most 11,888. The area's slave is one of those for which the tree has places. An
+    /// area of 0 bits is not in the tree's list of areas, which is a task's list after it too. It allocates nothing.
     pub fn set(&mut self, key: Key, bits: u16)
         requires place { HasPlace self.old.slaves key }
         requires narrow { bits ≤ MOST_AREA_BITS }
