@@ -182,7 +182,7 @@ pub after_it-found : (branch : Branch) (height node room : ℕ) (filled : Filled
 after_it-found branch height node room filled answer is less even at here beyond found =
     grind (arith, found-both, not-through, after_it-split)
 
--- if a search ends beyond the room, an area is found
+-- if all areas together end beyond the room, the search finds one
 pub beyond-in : (room : ℕ) (filled : Filled) (areas : List Keyed) (answer : Fit) → filled.bit ≤ room → room < (filled_with_areas filled areas).bit
     → answer ≡ scan room filled areas → IsInRoom room answer
 beyond-in room filled areas answer here beyond is = found-in room answer (not-through room filled areas answer here beyond is)

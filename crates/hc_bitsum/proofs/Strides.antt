@@ -61,7 +61,7 @@ is_placed-down levels height node row some at =
       first = at.first ∙ ap (λ n. at.index * n) wide ∙ sym (double at.index (2 ^ (height - 1)));
     }
 
--- a place that begins with a row is one of the nodes, if its rows are some of all
+-- what begins with a row is a node of its height, if all its rows are rows of the tree
 pub is_placed-node : (levels height node row : ℕ) → BeginsWithRow levels height node row → row + 2 ^ height ≤ 2 ^ levels → IsNode levels height node
 is_placed-node levels height node row at within =
     let some : 0 < 2 ^ height = pow_mono {i = 0} (omega arith) in

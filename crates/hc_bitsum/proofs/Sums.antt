@@ -22,7 +22,7 @@ double-next i s = grind arith
 pub more-by : (i s : ℕ) → (i + 1) * s ≡ i * s + s
 more-by i s = grind arith
 
--- the areas that a node at an index of its level stands for, if the forks below it are right
+-- the sum at a node, by its index in its level, is that of the areas that it stands for, if it and the forks below it are right
 at-index : (dir : Dir) (rows : List (List ℕ)) (sums : List Sum) (above height depth i : ℕ) → length rows ≡ 2 ^ (height + depth)
     → AreRowSums (λ j. Unit {0}) dir rows sums → AreForks (λ k. above < k) (length rows) sums → i < 2 ^ depth → above < 2 ^ depth + i
     → get_or sums (2 ^ depth + i) Empty ≡ sum_of (part dir rows (i * 2 ^ height) (2 ^ height))
@@ -46,7 +46,7 @@ at-index dir rows sums above (suc height) depth i many leaves forks h low =
     (sym (ap sum_of (part-split dir rows (i * (2 ^ height + 2 ^ height)) (2 ^ height) (2 ^ height))
     ∙ sum_of-append (part dir rows (i * (2 ^ height + 2 ^ height)) (2 ^ height)) (part dir rows (i * (2 ^ height + 2 ^ height) + 2 ^ height) (2 ^ height))))
 
--- the areas that a node stands for
+-- the sum at a node is that of the areas that it stands for, if it and the forks below it are right
 pub node-sum : (dir : Dir) (rows : List (List ℕ)) (sums : List Sum) (above levels height node : ℕ) → length rows ≡ 2 ^ levels
     → AreRowSums (λ j. Unit {0}) dir rows sums → AreForks (λ k. above < k) (length rows) sums → IsNode levels height node → above < node
     → get_or sums node Empty ≡ sum_of (part dir rows (first_row_of levels height node) (2 ^ height))
@@ -129,7 +129,7 @@ next-first levels height node is =
     let next : node + 1 - 2 ^ (levels - height) ≡ i + 1 = omega arith in
     ap (λ n. n * 2 ^ height) next ∙ more-by i (2 ^ height)
 
--- the number of rows before the one after a node
+-- the parent of a left node ends with the row with which the node's right neighbour ends
 
 pub up-left : (levels height node : ℕ) → height < levels → node % 2 ≡ 0 → IsNode levels height node
     → first_row_of levels (height + 1) (node / 2) + 2 ^ (height + 1) ≡ first_row_of levels height node + 2 ^ height + 2 ^ height

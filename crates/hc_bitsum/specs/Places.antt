@@ -13,7 +13,7 @@ abbrev pub AreFrom : Dir → ℕ → List Keyed → Type 0
 AreFrom dir place [] = Unit {0}
 AreFrom dir place (area ∷ areas) = (area.0 ≡ key_at dir place) × AreFrom dir (place + 1) areas
 
--- an area with a width is one of a slave's
+-- if an area has a width, its key has a place among those of so many slaves
 abbrev pub IsOfSlave : ℕ → Keyed → Type 0
 IsOfSlave slaves area = has_width area ≡ true → HasPlace slaves area.0
 

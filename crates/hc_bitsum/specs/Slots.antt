@@ -11,7 +11,7 @@ pub record Slots : Type 0 where
   pub height : ℕ
   pub areas : List Keyed
 
--- its width is at most 11,888 bits; it may be 0
+-- the width of an area is at most 11,888 bits; it may be 0
 abbrev pub IsNarrow : Keyed → Type 0
 IsNarrow area = area.1 ≤ MOST_AREA_BITS
 

@@ -16,7 +16,7 @@ end_from ends bit = 8 * (bit / 8) + slice_index ends (bit % 8)
 abbrev pub ends_by : (ℕ → ℕ) → List ℕ
 ends_by end = end 0 ∷ end 1 ∷ end 2 ∷ end 3 ∷ end 4 ∷ end 5 ∷ end 6 ∷ end 7 ∷ []
 
--- an area of 8 bits or more begins a byte
+-- the bit after an area of so many bits that starts at a bit, or at the first byte border at or after that bit if it has 8 bits or more
 abbrev pub area_end : ℕ → ℕ → ℕ
 area_end bits bit = (if nat_le 8 bits then next_byte bit else bit) + bits
 
@@ -24,7 +24,7 @@ area_end bits bit = (if nat_le 8 bits then next_byte bit else bit) + bits
 abbrev pub sum_of_area : Dir → ℕ → Sum
 sum_of_area dir bits = if bits == 0 then Empty else Run dir dir (ends_by (area_end bits))
 
--- the bit at which a run starts: the next byte's first one if it turns from outputs to inputs
+-- the bit at which a run starts: the first byte border at or after a bit if an input comes after an output, otherwise the bit itself
 abbrev pub start_at : Bool → ℕ → ℕ
 start_at turns bit = if turns then next_byte bit else bit
 

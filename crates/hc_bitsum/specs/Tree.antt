@@ -32,7 +32,7 @@ pub record HoldsTaskList (tree : Tree) : Type 0 where
 abbrev pub CanBegin : ℕ → Key → Type 0
 CanBegin slaves key = (key ≡ START) ⊎ HasPlace slaves key
 
--- its width is at least 1 bit
+-- an area has a width of at least 1 bit
 abbrev pub has_width : Keyed → Bool
 has_width area = nat_lt 0 area.1
 

@@ -253,7 +253,7 @@ impl Branch {
     }
 
     /// Fills a datagram with the nodes from a row on, each higher than the one before, that end by
-    /// another row. From the first row on it fills nothing: the root begins with that row.
+    /// another row. Exception: if the walk begins with row 0, it fills nothing, since the root begins with row 0 too.
     fn climb(&self, first: usize, end: usize, filled: Filled) -> Climbed
         requires branch { IsBranch self.now }
         requires order { first ≤ end }

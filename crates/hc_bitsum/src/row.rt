@@ -106,7 +106,7 @@ pub(crate) fn row_sum(dir: Dir, row: &AreaWidths) -> Sum
 }
 
 /// Fills a datagram with the areas of a row from one of them on, as long as each ends within the room,
-/// in bits. The row's first area has a place of the direction. Each area that is read is a step.
+/// in bits. `place` is the place of the row's first area in its direction. Each area that is read is a step.
 pub(crate) fn fit_row<L: Ledger>(
     dir: Dir,
     row: &AreaWidths,

@@ -21,7 +21,8 @@ pub enum Sum {
     },
 }
 
-/// Returns the bit at which a run starts: the first one of the next byte if it begins a byte.
+/// Returns the bit at which a run starts: the first byte border at or after a bit if the run begins a byte, otherwise the bit
+/// itself.
 pub(crate) fn start_at(turns: bool, bit: u32) -> u32
     requires { bit < 2 ^ 31 }
     ensures { result ≡ start_at turns bit }

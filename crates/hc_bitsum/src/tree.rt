@@ -146,8 +146,8 @@ impl SumTree {
         })
     }
 
-    /// Sets the width in bits of an area, at most 11,888. The area's slave is one of those for which the tree was made. An area
-    /// of 0 bits is not in the tree's list of areas. It allocates nothing.
+    /// Sets the width in bits of an area, at most 11,888. The area's slave is one of those for which the tree has places. An
+    /// area of 0 bits is not in the tree's list of areas, which is a task's list after it too. It allocates nothing.
     pub fn set(&mut self, key: Key, bits: u16)
         requires place { HasPlace self.old.slaves key }
         requires narrow { bits ≤ MOST_AREA_BITS }
@@ -247,8 +247,8 @@ impl SumTree {
 
     /// Returns the key of the first area that would end past a room, or `Key::END` if none would. The areas from a key on fill
     /// a datagram from bit `phase` on. The key is one that `set` takes, or `Key::START`, with which all areas are gone over.
-    /// `phase` and `room` are at most 11,888 bits. Each node and area that is read is a step, at least 1 and at most 62. Its
-    /// areas are a task's list, so that a search can begin at each of their keys. It allocates nothing.
+    /// `phase` is at most `room`, which is at most 11,888 bits. Each node and area that is read is a step, at least 1 and at
+    /// most 62. Its areas are a task's list, so that a search can begin at each of their keys. It allocates nothing.
     pub fn last_fit<L: Ledger>(&self, from: Key, phase: u32, room: u32, steps: &mut Steps<L>) -> Key
         requires from { CanBegin self.now.slaves from }
         requires phase { phase ≤ room }

@@ -12,7 +12,7 @@ counterpart line found =
     option_and_then (λ member. option_map (λ area. record { member = member; index = found.index; area = area }) (slice_get member.slave.areas found.index))
     (find (λ member. member.rank == found.member.rank) line)
 
--- its two blocks, which have the numbers of the other's
+-- the two blocks of the area of a line at the position of another area (`counterpart`); an empty list if there is no such area
 abbrev pub blocks_in : List Member → LineArea → List LineBlock
 blocks_in line found = option_map_or (line_area_blocks line) (counterpart line found) []
 

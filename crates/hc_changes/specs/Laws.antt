@@ -16,7 +16,7 @@ UnchangedDatagramsStay =
     (old new : List Keyed) (datagram : ℕ) → IsTaskList old → IsTaskList new → is_unchanged old new datagram ≡ true
     → inside datagram (packed empty_front new) ≡ inside datagram (packed empty_front old)
 
--- a task that no edit touched has the table that it had
+-- a task in which no width differs between the lines of two states of a project has the same table in both
 abbrev pub UntouchedTasksStay : Type 0
 UntouchedTasksStay =
     (old new : State) (task : ℕ) → lowest_fault (groups_of old.groups) ≡ None → lowest_fault (groups_of new.groups) ≡ None

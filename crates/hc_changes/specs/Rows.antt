@@ -27,7 +27,7 @@ is_new_row table row = not (same_found (place_in table row.0) (Some row.1))
 abbrev pub moved_rows : Table → List VariableRow → List ChangedRow
 moved_rows old rows = map (λ row. (row.0, Some row.1)) (filter (is_new_row old) rows)
 
--- the variables that an area's assigned PDOs carry, and those of the areas of a slave
+-- the variables that an area's assigned PDOs carry, in order
 abbrev pub area_variables_of : Area → List ℕ
 area_variables_of area = entry_names (assigned_entries area)
 

@@ -1,4 +1,4 @@
--- Each piece of updates is of an entry of the record.
+-- Each update of a record is an accepted edit of the record, or a good answer among its arrivals.
 use Rattle.std.proofs.Common.{◌≡◌, ◌==◌, Bool, true, false, cond, List, [], ◌∷◌, map, refl, sym, ap, ◌∙◌, Option, Some, None}
 use Rattle.std.specs.Prelude.{All, Contains}
 use Rattle.std.specs.Option.{option_map_or}

@@ -72,7 +72,9 @@ pub record IsUnplugging (history : History) (station : ℕ) : Type 0 where
   pub declared : is_declared_station (state_of history) station ≡ true
   pub outside : is_in_line history station ≡ false
 
--- an edit that the state accepts, such a post, such a frame, such register blocks, any arrival that can be read, a slave of the line that is forgotten, a slave that is cleared, one outside the line that is unplugged; a project is opened once
+-- what a record accepts: an edit that the state accepts, a post (`IsPost`), a frame of tasks (`IsFrame`), register blocks (`IsWrite`), any arrival that can
+-- be read, a slave of the line that is forgotten, a slave that is cleared (`IsClearing`), and one outside the line that is unplugged (`IsUnplugging`). A
+-- project is opened once, at the beginning
 abbrev pub IsAccepted : History → HistoryEntry → Type 0
 IsAccepted history (Opened groups) = ⊥
 IsAccepted history (Edited edit) = lowest (edit_faults (state_of history) edit) ≡ None

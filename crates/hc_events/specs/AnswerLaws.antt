@@ -173,7 +173,8 @@ pub record ReturnsWell (since : List HistoryEntry) (entry : HistoryEntry) (befor
   pub answer : answer_to (since ++ entry ∷ before) (Arrives bytes) ≡ judged_answer (map (judge since) (zip (heads_of before entry) parts))
   pub good_answers : new_answer_by (since ++ entry ∷ before) (record { serial = next_serial before; parts = parts }) ≡ good_parts since (line_of before) entry parts
 
--- a frame of tasks or a register write that comes back from the line, whatever its slaves made of its data and its counters and whatever was recorded since its sending, as long as that left it open
+-- `ReturnsWell` holds for a frame of tasks or a register write that comes back from the line, whatever its slaves made of its data and its counters, and
+-- whatever was recorded since its sending, as long as each such entry left it awaited (`LeavesAwaited`)
 abbrev pub ReturnedFramesAnswer : Type 0
 ReturnedFramesAnswer =
     (since : List HistoryEntry) (entry : HistoryEntry) (before : History) (parts : List Part) (bytes : List ℕ)

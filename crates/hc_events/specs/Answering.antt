@@ -49,7 +49,7 @@ has_heads (head ∷ heads) (part ∷ parts) = has_head head part && has_heads he
 abbrev pub fits_sending : ℕ → List Head → Arrival → Bool
 fits_sending serial heads arrival = (serial == arrival.serial) && has_heads heads arrival.parts
 
--- an accepted edit or such an arrival: no arrival after it answers the sending
+-- an accepted edit, or an arrival that fits the sending (`fits_sending`): no arrival after it answers the sending
 abbrev pub ends : ℕ → List Head → HistoryEntry → Bool
 ends serial heads (Edited edit) = true
 ends serial heads (Came arrival) = fits_sending serial heads arrival
@@ -69,7 +69,7 @@ only_if test x = if test x then Some x else None
 abbrev pub answered_by : History → Arrival → Option Sending
 answered_by history arrival = option_and_then (only_if (is_answer arrival)) (sending_of history arrival.serial)
 
--- a sending of the same datagram or block
+-- the entry sends the item: it is a frame with that datagram, or a write of that block
 abbrev pub sends : Item → HistoryEntry → Bool
 sends item (Sent frame) = list_any (λ named. same_item item (item_of named)) frame
 sends item (Wrote blocks) = list_any (λ block. same_item item (block_item block)) blocks
@@ -80,7 +80,7 @@ abbrev pub is_forgetting : HistoryEntry → Bool
 is_forgetting (Forgot station) = true
 is_forgetting entry = false
 
--- those of the slave with a station address were
+-- the registers of the slave with a station address were forgotten
 abbrev pub forgets : ℕ → HistoryEntry → Bool
 forgets station (Forgot other) = station == other
 forgets station entry = false

@@ -8,7 +8,7 @@ use Rattle.hc_frames.specs.declared.reading.faults.FrameFault.{FrameFault}
 abbrev pub Part : Type 0
 Part = WireDatagram
 
--- the serial and the datagrams
+-- a frame that arrived and can be read: its serial and its datagrams
 abbrev pub Arrival : Type 0
 Arrival = Reading
 

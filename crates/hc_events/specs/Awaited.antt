@@ -1,4 +1,4 @@
--- The sendings that an arrival can still be updates for.
+-- The awaited sendings: those that an arrival can still answer without being stale.
 use Rattle.std.specs.Prelude.{ℕ, ◌||◌, Bool, true, false, if◌then◌else◌, List, filter, Option, Some, None, option_and_then}
 use Rattle.std.specs.List.{list_all, list_any}
 use Rattle.hc_events.specs.Entries.{HistoryEntry, History, Came}
@@ -29,6 +29,6 @@ still_awaited serial sending =
 abbrev pub awaited : History → ℕ → Option Sending
 awaited history serial = option_and_then (still_awaited serial) (sending_of history serial)
 
--- a register write
+-- the sending carries a register block
 abbrev pub is_write_sending : Sending → Bool
 is_write_sending sending = list_any (λ head. is_block head.item) sending.heads

@@ -59,7 +59,8 @@ write_size (block ∷ blocks) = frame_bytes (12 + length block.block.bytes)
 abbrev pub write_into_faults : History → ℕ → List (Bool × CoreFault)
 write_into_faults history bytes = write_faults history (owed_blocks history) ++ room_faults (write_size (owed_blocks history)) bytes
 
--- the frame that writes the first of the owed blocks, as many as it holds, goes into a slice of so many bytes: refused in the same way
+-- the faults of writing the first owed blocks, as many as one frame holds, into a slice of so many bytes: those of the event, then the fault of a
+-- slice that is too short
 abbrev pub write_all_into_faults : History → ℕ → List (Bool × CoreFault)
 write_all_into_faults history bytes = write_faults history (owed_blocks history) ++ room_faults (writes_size (frame_blocks (owed_blocks history))) bytes
 
@@ -76,11 +77,13 @@ frames_size history tasks = sum_by sent_frame_size (proposal history tasks)
 abbrev pub arena_sent : History → List ℕ → List ℕ → List ℕ
 arena_sent history tasks arena = flat_map (sent_text history) (proposal history tasks) ++ drop (frames_size history tasks) arena
 
--- they go into one slice of so many bytes, one after another: refused in the same way
+-- the faults of sending tasks into a slice of so many bytes, their frames one after another: those of the event, then the fault of a slice that is
+-- too short
 abbrev pub send_into_faults : History → List ℕ → ℕ → List (Bool × CoreFault)
 send_into_faults history tasks bytes = task_faults history tasks ++ room_faults (frames_size history tasks) bytes
 
--- ready tasks go into one slice of so many bytes, one after another: refused in the same way
+-- the faults of sending ready tasks into a slice of so many bytes, their frames one after another: those of the event, then the fault of a slice
+-- that is too short
 abbrev pub ready_into_faults : History → List ℕ → ℕ → List (Bool × CoreFault)
 ready_into_faults history tasks bytes = ready_faults history tasks ++ room_faults (frames_size history tasks) bytes
 

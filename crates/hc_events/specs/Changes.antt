@@ -48,11 +48,11 @@ AreLegalFrom state (change.Swapped swap ∷ changes) =
     × AreLegalFrom (state_after state swap.edit) changes
 AreLegalFrom state (change.Good good ∷ changes) = IsAnswerIn state good.task good.datagram good.bytes × AreLegalFrom state changes
 
--- the changes of a project's running line
+-- a list of changes is legal from the opening of a project on (`AreLegalFrom`)
 abbrev pub AreLegal : List Group → List Change → Type 0
 AreLegal groups changes = AreLegalFrom (opened groups) changes
 
--- the table, the epoch, and the datagrams' data that a list of changes leads to by itself, without any edit or arrival
+-- the table that a list of changes leads to by itself, without any edit or arrival
 abbrev pub table_after : Table → List Change → Table
 table_after table [] = table
 table_after table (change.Swapped swap ∷ changes) = table_after (swapped swap.change table) changes
@@ -79,7 +79,7 @@ SwapsLeadFrom state (change.Swapped swap ∷ changes) =
     × SwapsLeadFrom (state_after state swap.edit) changes
 SwapsLeadFrom state (change.Good good ∷ changes) = SwapsLeadFrom state changes
 
--- these are the changes that a record of a project gives
+-- a list of changes is one that a record of a project gives: it has the record's updates, and each swap leads to the next state's table
 pub record AreChangesOf (groups : List Group) (history : History) (changes : List Change) : Type 0 where
   pub updates : map update_in changes ≡ updates_of history
   pub lead : SwapsLeadFrom (opened groups) changes

@@ -86,7 +86,8 @@ abbrev pub HistoriesWithoutForgetting : Type 0
 HistoriesWithoutForgetting =
     (history : History) → list_any is_forgetting history ≡ false → list_all writes_one history ≡ true → SaysAsAtFirst history
 
--- events other than forgetting and several writes in a frame are answered, from a project's opening on, as by these words, and leave the same history
+-- edits, posts, sendings of tasks, register writes of one block each, arrivals and reads (`FirstStep`) are answered, from a project's opening on, as by the
+-- words of `WithoutForgetting`, and leave the same history
 pub record AreAnsweredAsAtFirst (groups : List Group) (steps : List FirstStep) : Type 0 where
   pub answers : first.answers_to (just_opened groups) steps ≡ answers_to (just_opened groups) (map step_of steps)
   pub entries : first.entries_after_all (just_opened groups) steps ≡ entries_after_all (just_opened groups) (map step_of steps)

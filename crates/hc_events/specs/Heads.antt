@@ -39,7 +39,7 @@ pub record Head : Type 0 where
 abbrev pub item_of : Named → Item
 item_of named = Datagram named.0 named.1
 
--- process data: a logical read and write
+-- the head of a task's datagram by the line: an LRW with the datagram's logical address, length and expected working counter
 abbrev pub data_head : List Member → Named → Head
 data_head line named =
     let found = datagram_of line named.0 named.1 in
@@ -49,7 +49,7 @@ data_head line named =
 abbrev pub data_heads : List Member → List Named → List Head
 data_heads line frame = map (data_head line) frame
 
--- a register block: a write at the slave's station address
+-- a register block as an item: its slave's station address, and its number in the slave's order
 abbrev pub block_item : LineBlock → Item
 block_item block = Block block.station block.number
 

@@ -34,7 +34,7 @@ held_after_write written held = record {
   contents = option_map_or (λ (block : LineBlock). block.block.bytes ∷ held.contents) written held.contents;
 }
 
--- a good answer leaves the bytes of the block's last write alone
+-- after a good answer the register may hold only the bytes of the block's last write
 abbrev pub held_after_answer : Bool → Option (ℕ × List ℕ) → MayHold → MayHold
 held_after_answer good write held =
     if good then record { unknown = false; contents = option_map_or (λ (found : ℕ × List ℕ). found.1 ∷ []) write [] } else held

@@ -15,7 +15,7 @@ pub record NewAnswer : Type 0 where
   pub datagram : ℕ
   pub bytes : List ℕ
 
--- of a datagram that a task can have, with no more data than a datagram can have
+-- a good answer is of a datagram that a task can have, with no more data than a datagram can have
 pub record FitsImage (good : NewAnswer) : Type 0 where
   pub task : good.task < TASKS
   pub datagram : good.datagram < MOST_DATAGRAMS
@@ -34,7 +34,7 @@ new_answer datagram = if has_good datagram then new_answer_item datagram.head.it
 abbrev pub new_answer_by : History → Arrival → List NewAnswer
 new_answer_by history arrival = flat_map new_answer (judged_by history arrival)
 
--- a datagram has the data of a good answer of it from then on
+-- a good answer is of this datagram of the task
 abbrev pub is_for : ℕ → ℕ → NewAnswer → Bool
 is_for task d good = (good.task == task) && (good.datagram == d)
 
@@ -51,6 +51,6 @@ slot_of (Edited edit ∷ history) task d = None
 slot_of (Came arrival ∷ history) task d = fold (renewed task d) (slot_of history task d) (new_answer_by history arrival)
 slot_of (entry ∷ history) task d = slot_of history task d
 
--- those of all datagrams that a task has in the present epoch
+-- the data of each datagram that a task has in the present epoch, in order, or none
 abbrev pub slots_of : History → ℕ → List (Option (List ℕ))
 slots_of history task = map (slot_of history task) (range_with_len 0 (datagram_count (task_places task (line_of history))))

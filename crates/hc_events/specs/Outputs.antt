@@ -35,7 +35,7 @@ value_bit (Edited edit ∷ history) variable k =
     if is_some (variable_place variable (line_of history)) then value_bit history variable k else 0
 value_bit (entry ∷ history) variable k = value_bit history variable k
 
--- the output variables that are in a datagram of a task
+-- a variable with a place is an output, and is in the datagram with this number
 abbrev pub is_output_in : ℕ → ℕ × VariablePlace → Bool
 is_output_in d found = same_dir found.1.dir Out && (found.1.datagram == d)
 
@@ -51,7 +51,7 @@ has_bit k found = nat_le found.1.bit k && nat_lt k (found.1.bit + found.1.bits)
 abbrev pub sent_bit : History → List (ℕ × VariablePlace) → ℕ → ℕ
 sent_bit history outputs k = option_map_or (λ found. value_bit history found.0 (k - found.1.bit)) (find (has_bit k) outputs) 0
 
--- the byte with a number, and the first bytes, that have these bits, the least significant first
+-- the byte with a number, from 0, that has these bits, the least significant first
 abbrev pub byte_of : (ℕ → ℕ) → ℕ → ℕ
 byte_of bit n = number_of (map (λ k. bit (8 * n + k)) (range_with_len 0 8))
 

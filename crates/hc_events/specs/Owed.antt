@@ -33,7 +33,7 @@ last_write (Edited edit ∷ history) station number =
 last_write (Forgot other ∷ history) station number = if station == other then None else last_write history station number
 last_write (entry ∷ history) station number = last_write history station number
 
--- a judged datagram is a register block's, and good
+-- a judged datagram is of this item, and good
 abbrev pub confirms : Item → Judged → Bool
 confirms item datagram = same_item item datagram.head.item && has_good datagram
 

@@ -45,7 +45,7 @@ serves_task state task block = option_map_or (is_in_task task) (area_at state bl
 abbrev pub names_among : ℕ → MayHold → Bool
 names_among task held = list_any (names_task task) held.contents
 
--- the register of the block with a number is an FMMU's, and what it may hold names the task; anything may
+-- the register of the block with a number is an FMMU's, and a content that it may have names the task; an unknown register may name any task
 abbrev pub may_name : ℕ → ℕ → MayHold → Bool
 may_name task number held = is_fmmu number && (held.unknown || names_among task held)
 
@@ -73,7 +73,7 @@ slaves_outside state = flat_map absent_slaves state.groups
 abbrev pub fmmu_registers : Slave → List (ℕ × ℕ)
 fmmu_registers slave = map (λ (index : ℕ). (slave.station, 2 * index + 1)) (range_with_len 0 (length slave.areas))
 
--- those of the slaves outside the line, in declared order
+-- the FMMU registers of the slaves outside the line, in declared order
 abbrev pub registers_outside : State → List (ℕ × ℕ)
 registers_outside state = flat_map fmmu_registers (slaves_outside state)
 
@@ -99,11 +99,11 @@ ready_tasks history = filter (is_ready history) tasks
 abbrev pub mask_of : (ℕ → Bool) → ℕ
 mask_of test = number_of (map (λ (task : ℕ). if test task then 1 else 0) tasks)
 
--- the ready tasks as such a number
+-- the ready tasks as a number: bit t is 1 if task t is ready
 abbrev pub ready_mask : History → ℕ
 ready_mask history = mask_of (is_ready history)
 
--- the tasks that wait as such a number
+-- the tasks that wait as a number: bit t is 1 if task t is not ready
 abbrev pub waiting_mask : History → ℕ
 waiting_mask history = mask_of (λ task. not (is_ready history task))
 
@@ -123,7 +123,7 @@ holders history task =
     map (λ (member : Member). member.slave.station) (filter (holds_up history task) (line_of history))
     ++ map (λ (slave : Slave). slave.station) (filter (holds_up_outside history task) (slaves_outside (state_of history)))
 
--- the one of them with an index, counted from 0, or none
+-- the slave with an index, counted from 0, among those that hold a task up (`holders`); none if there are fewer
 abbrev pub held_by : History → ℕ → ℕ → Option ℕ
 held_by history task n = slice_get (holders history task) n
 
@@ -142,6 +142,6 @@ comers history edit = filter (comes history edit) (map (λ (member : Member). me
 abbrev pub edited_and_cleared : History → Edit → History
 edited_and_cleared history edit = fold with_cleared (Edited edit ∷ history) (comers history edit)
 
--- the tasks that will wait then, as a number
+-- the tasks that wait after an edit once each slave that came is cleared, as a number
 abbrev pub waiting_after : History → Edit → ℕ
 waiting_after history edit = waiting_mask (edited_and_cleared history edit)

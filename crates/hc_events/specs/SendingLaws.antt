@@ -58,7 +58,7 @@ SerialsAscend =
     (history : History) (low high : ℕ) (older newer : Sending) → sending_of history low ≡ Some older → sending_of history high ≡ Some newer
     → low < high → length newer.since < length older.since
 
--- each is below the serial of alias reads and station writes
+-- the serial of each sending of a record that events led to is below the serial of alias reads and station writes
 abbrev pub SerialsStayBelow : Type 0
 SerialsStayBelow =
     (history : History) (serial : ℕ) (sending : Sending) → IsReachable history → sending_of history serial ≡ Some sending
@@ -121,7 +121,7 @@ FramesHaveTheirSizes =
 abbrev pub index_in : List ℕ → ℕ
 index_in text = slice_index text 17
 
--- it is the frame's serial modulo 256, so it comes again in the frame 256 sendings later, and in none before that
+-- the index of a frame is its serial modulo 256, so it comes again in the frame 256 sendings later, and in none before that
 pub record ComesAgain (serial : ℕ) (d : Datagram) (ds : List Datagram) : Type 0 where
   pub index : index_in (frame_text serial (d ∷ ds)) ≡ serial % 256
   pub again : (e : Datagram) (es : List Datagram) → index_in (frame_text (serial + 256) (e ∷ es)) ≡ index_in (frame_text serial (d ∷ ds))

@@ -43,13 +43,13 @@ pub record SameAfter (a b : History) (steps : List Step) : Type 0 where
   pub answers : answers_to a steps ≡ answers_to b steps
   pub says : SaysTheSame (entries_after_all a steps) (entries_after_all b steps)
 
--- with an arrival that was stale when it came, and without it, whatever was recorded since and whatever comes
+-- `SameAfter` holds for a record with an arrival that was stale when it came and the same record without it, whatever was recorded since and whatever comes
 abbrev pub StaleChangesNothing : Type 0
 StaleChangesNothing =
     (since history : History) (arrival : Arrival) (steps : List Step) → is_stale_to history arrival ≡ true
     → SameAfter (since ++ Came arrival ∷ history) (since ++ history) steps
 
--- with all stale arrivals and without any
+-- `SameAfter` holds for a record and the same record without its stale arrivals
 abbrev pub StaleArrivalsCanGo : Type 0
 StaleArrivalsCanGo = (history : History) (steps : List Step) → SameAfter history (without_stale history) steps
 
@@ -57,7 +57,7 @@ StaleArrivalsCanGo = (history : History) (steps : List Step) → SameAfter histo
 abbrev pub StaleIsJudgedWithout : Type 0
 StaleIsJudgedWithout = (history : History) (arrival : Arrival) → is_stale_to (without_stale history) arrival ≡ is_stale_to history arrival
 
--- an event adds the same to both
+-- an event leads from a record, and from that record without its stale arrivals, to records that are equal without theirs
 abbrev pub StepsKeepWithout : Type 0
 StepsKeepWithout =
     (history : History) (step : Step) → without_stale (entries_after history step) ≡ without_stale (entries_after (without_stale history) step)

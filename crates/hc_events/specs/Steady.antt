@@ -87,14 +87,14 @@ steady_data (Edited edit ∷ history) task d = if edit_changes history edit task
 steady_data (Came arrival ∷ history) task d = fold (steadied arrival.serial (epoch_of history) task d) (steady_data history task d) (new_answer_by history arrival)
 steady_data (entry ∷ history) task d = steady_data history task d
 
--- the bytes of these data
+-- the bytes of a datagram's steady data (`steady_data`), or none
 abbrev pub steady_slot : History → ℕ → ℕ → Option (List ℕ)
 steady_slot history task d = option_map (λ (found : SteadyData). found.bytes) (steady_data history task d)
 
--- the serial of the sending whose answer brought them
+-- the serial of the sending whose answer brought a datagram's steady data, or none
 abbrev pub steady_serial : History → ℕ → ℕ → Option ℕ
 steady_serial history task d = option_map (λ (found : SteadyData). found.serial) (steady_data history task d)
 
--- the epoch in which that answer came
+-- the epoch in which the answer with a datagram's steady data came, or none
 abbrev pub steady_epoch : History → ℕ → ℕ → Option ℕ
 steady_epoch history task d = option_map (λ (found : SteadyData). found.epoch) (steady_data history task d)

@@ -76,7 +76,7 @@ pub record IsSteadyPost (history : History) (task epoch : ℕ) (bytes : List ℕ
   pub most : epoch ≤ epoch_of history
   pub size : length bytes ≡ output_length (task_places task (line_of history))
 
--- just such posts are accepted
+-- a steady post is accepted exactly if it meets the condition `IsSteadyPost`
 abbrev pub SteadyPostsAreAccepted : Type 0
 SteadyPostsAreAccepted =
     (history : History) (task epoch : ℕ) (bytes : List ℕ) → (answer_to history (PostsSteady task epoch bytes) ≡ answer.Posted) ↔ IsSteadyPost history task epoch bytes
@@ -132,7 +132,7 @@ abbrev pub member_areas : ℕ → Member → List (ℕ × (ℕ × (ℕ × Area))
 member_areas task member =
     map (λ (e : ℕ × Area). (member.slave.station, (member.rank, e))) (filter (λ (e : ℕ × Area). is_in_task task e.1) (enumerate_from 0 member.slave.areas))
 
--- those that a line has in a task, in line order
+-- the areas that a line has in a task, in line order (`member_areas`)
 abbrev pub areas_in_task : ℕ → List Member → List (ℕ × (ℕ × (ℕ × Area)))
 areas_in_task task line = flat_map (member_areas task) line
 

@@ -52,7 +52,7 @@ pub data Step : Type 0 where
   Unplugs : ℕ → Step
   SendsFurther : Step
 
--- a refusal, or else this answer; the record unchanged, or else this one
+-- the refusal with a fault if there is one, otherwise this answer
 abbrev pub unless : Option CoreFault → Answer → Answer
 unless None returned = returned
 unless (Some fault) returned = answer.Refused fault
@@ -141,7 +141,7 @@ ready_faults history tasks =
     ++ (not (has_serials history (length (proposal history tasks))), SerialsSpent)
     ∷ []
 
--- the frame of a sending, with the data that its datagrams are sent with
+-- a task's datagram as it is sent after the record: an LRW at its logical address, with the data that it is sent with
 abbrev pub sent_datagram : History → Named → Datagram
 sent_datagram history named = lrw (logical_address named.0 named.1) (sent_data history named.0 named.1)
 
@@ -344,7 +344,7 @@ entries_after history (Clears station) = unless_fault (lowest (clear_faults hist
 entries_after history (Unplugs station) = unless_fault (lowest (unplug_faults history station)) history (Unplugged station ∷ history)
 entries_after history SendsFurther = unless_fault (lowest (further_faults history)) history (with_writes history (frame_blocks (further_blocks history)))
 
--- the answers to a list of events, each after those before it, and the record that all of them leave
+-- the answers to a list of events, each after those before it
 abbrev pub answers_to : History → List Step → List Answer
 answers_to history [] = []
 answers_to history (step ∷ steps) = answer_to history step ∷ answers_to (entries_after history step) steps

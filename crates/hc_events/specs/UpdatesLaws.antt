@@ -44,7 +44,7 @@ pub record IsGoodAnswer (history : History) (good : NewAnswer) : Type 0 where
   pub counter : part.counter ≡ head.expected
   pub bytes : good.bytes ≡ part.bytes
 
--- each piece of updates is an accepted edit of the record, or such a datagram
+-- an update is an accepted edit of the record, or a good answer of the record (`IsGoodAnswer`)
 abbrev pub AreUpdatesOf : History → Update → Type 0
 AreUpdatesOf history (Swapped edit) = Contains history (Edited edit)
 AreUpdatesOf history (Answered good) = IsGoodAnswer history good
@@ -53,8 +53,7 @@ AreUpdatesOf history (Answered good) = IsGoodAnswer history good
 abbrev pub UpdatesAreOfTheHistory : Type 0
 UpdatesAreOfTheHistory = (history : History) → All (AreUpdatesOf history) (updates_of history)
 
--- a piece of updates leaves a datagram's data: no accepted edit, and no good answer of that
--- datagram
+-- an update leaves a datagram's data: it is no accepted edit, and no good answer of that datagram
 abbrev pub LeavesData : ℕ → ℕ → Update → Type 0
 LeavesData task d (Swapped edit) = ⊥
 LeavesData task d (Answered good) = is_for task d good ≡ false

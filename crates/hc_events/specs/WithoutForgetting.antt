@@ -32,7 +32,7 @@ use Rattle.hc_events.specs.Owed.{is_in_line}
 use Rattle.hc_events.specs.Steps.{Step, edit_refused, has_serials, is_no_task, unless_fault, post_faults, proposal, read_faults, sent_text, write_answer, edit_answer, sent_write_answer, unless, with_arrival, with_sent, with_write, write_faults}
 use Rattle.hc_events.specs.Steps as now
 
--- a sending of the same datagram or block
+-- the entry sends the item: it is a frame with that datagram, or a write whose first block is that block
 abbrev pub sends : Item → HistoryEntry → Bool
 sends item (Sent frame) = list_any (λ named. same_item item (item_of named)) frame
 sends item (Wrote (block ∷ blocks)) = same_item item (block_item block)
@@ -98,7 +98,7 @@ slot_of (Edited edit ∷ history) task d = None
 slot_of (Came arrival ∷ history) task d = fold (renewed task d) (slot_of history task d) (new_answer_by history arrival)
 slot_of (entry ∷ history) task d = slot_of history task d
 
--- those of all datagrams that a task has in the present epoch
+-- the data of each datagram that a task has in the present epoch, in order, or none
 abbrev pub slots_of : History → ℕ → List (Option (List ℕ))
 slots_of history task = map (slot_of history task) (range_with_len 0 (datagram_count (task_places task (line_of history))))
 
@@ -167,7 +167,7 @@ abbrev pub inputs_of : Item → Outcome
 inputs_of (Datagram task d) = outcome.Inputs task d
 inputs_of (Block station number) = outcome.Stale
 
--- by its verdict
+-- the outcome of a datagram by its verdict
 abbrev pub outcome_of : Head → Part → Verdict → Outcome
 outcome_of head part Good = inputs_of head.item
 outcome_of head part Wrong = outcome.WrongCount head.expected part.counter
@@ -189,7 +189,7 @@ abbrev pub arrival_answer : History → Result Arrival FrameFault → Answer
 arrival_answer history (Err fault) = answer.Refused (frame_refusal fault)
 arrival_answer history (Ok arrival) = judged_answer (judged_by history arrival)
 
--- the events that there were
+-- the events without forgetting, clearing and unplugging, steady posts, ready tasks, and frames of several writes
 pub data FirstStep : Type 0 where
   Edits : Edit → FirstStep
   Posts : ℕ → ℕ → List ℕ → FirstStep
@@ -198,7 +198,7 @@ pub data FirstStep : Type 0 where
   Arrives : List ℕ → FirstStep
   Reads : ℕ → FirstStep
 
--- each is still an event
+-- each of these events as an event of the core
 abbrev pub step_of : FirstStep → Step
 step_of (Edits edit) = now.Edits edit
 step_of (Posts task epoch bytes) = now.Posts task epoch bytes

@@ -16,7 +16,7 @@ abbrev serials_along : History → List Step → List (Option ℕ)
 serials_along history [] = data_serial history 0 0 ∷ []
 serials_along history (step ∷ steps) = data_serial history 0 0 ∷ serials_along (entries_after history step) steps
 
--- The data have the serial of the frame whose answer brought them: 4 at first. The next frame is lost, and the one after it comes back with another counter, so they stay those of 4; its late answer changes nothing. The answer to 7
+-- The data have the serial of the frame whose answer brought them: 4 at first. Frame 5 is late, and frame 6 comes back with another counter, so the data stay those of 4; the late answer to 5 changes nothing. The answer to 7
 -- brings newer ones, and an edit leaves none.
 
 serial_of_data :

@@ -45,7 +45,7 @@ written_at station register size counter = record {
   counter = counter;
 }
 
--- and the frame of one from the axis
+-- the frame of one register write that comes back from the axis
 abbrev pub write_back : ℕ → ℕ → ℕ → ℕ → Step
 write_back serial register size counter = back serial (written_at 1001 register size counter ∷ [])
 
@@ -56,7 +56,7 @@ data_back address bytes counter = record { command = Lrw; address = address; int
 abbrev pub head_of : ℕ → ℕ → List ℕ
 head_of serial size = replicate 6 0xff ++ 0x02 ∷ 0 ∷ 0 ∷ 0 ∷ 0 ∷ serial ∷ 0x88 ∷ 0xa4 ∷ size ∷ 0x10 ∷ []
 
--- its four register blocks are written, each with the answer of its slave
+-- the four register blocks of the axis are written one by one, and each write is answered
 
 abbrev pub four_answers : ℕ → List Step
 four_answers serial =
@@ -69,7 +69,7 @@ four_answers serial =
 abbrev pub written : History
 written = entries_after_all opened (four_answers 0)
 
--- then its task posts, and is sent
+-- the record once the axis' blocks are written and its task has posted
 
 abbrev pub posted : History
 posted = entries_after_all written (Posts 0 0 (2 ∷ []) ∷ [])
@@ -82,7 +82,7 @@ inputs_back =
     0xff ∷ 0xff ∷ 0xff ∷ 0xff ∷ 0xff ∷ 0xff ∷ 0x02 ∷ 0x00 ∷ 0x00 ∷ 0x00 ∷ 0x00 ∷ 0x04 ∷ 0x88 ∷ 0xa4 ∷ 0x0f ∷ 0x10
     ∷ 0x0c ∷ 0x04 ∷ 0x00 ∷ 0x00 ∷ 0x00 ∷ 0x01 ∷ 0x03 ∷ 0x00 ∷ 0x00 ∷ 0x00 ∷ 0x02 ∷ 0x34 ∷ 0x0a ∷ 0x03 ∷ 0x00 ∷ []
 
--- or its outputs move to another task, and the two blocks that are new are written
+-- the axis' outputs move from task 0 to task 1
 
 abbrev pub to_task_1 : Step
 to_task_1 = Edits (Move 1001 0 1)

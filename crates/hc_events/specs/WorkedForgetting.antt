@@ -53,6 +53,6 @@ owed_anew : owed_count written ∷ owed_count (entries_after written (Forgets 10
 unfolding bit_of number_of starts_within
 owed_anew = refl
 
--- the order of its refusals, by their numbers
+-- the order in which forgetting a slave is refused, by the numbers of the faults
 forget_order : (history : History) (station : ℕ) → map (λ judged. core_fault_number judged.1) (forget_faults history station) ≡ 5 ∷ 6 ∷ []
 forget_order history station = refl

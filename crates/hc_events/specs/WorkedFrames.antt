@@ -62,7 +62,7 @@ each_by_itself : answers_to sent_again (back 7 (first_back 1 ∷ second_back 2 �
 unfolding bit_of number_of starts_within
 each_by_itself = refl
 
--- and a frame whose datagrams are exchanged, left out or repeated answers nothing and uses up nothing
+-- a frame whose datagrams are exchanged, left out or repeated answers nothing and uses up nothing
 
 other_lists : answers_to sent_again (
     back 7 (second_back 2 ∷ first_back 1 ∷ [])
@@ -74,7 +74,7 @@ other_lists : answers_to sent_again (
 unfolding bit_of number_of starts_within
 other_lists = refl
 
--- nor does one without its last datagram
+-- a frame without its last datagram answers nothing either
 
 last_one_missing : answers_to moved (SendsTasks (0 ∷ 1 ∷ []) ∷ back 6 (first_back 1 ∷ []) ∷ back 6 (first_back 1 ∷ second_back 2 ∷ []) ∷ [])
     ≡ answer.Sent (shared_text ∷ []) ∷ answer.Stale ∷ answer.Answered (Inputs 0 0 ∷ Inputs 1 0 ∷ []) ∷ []
@@ -165,7 +165,7 @@ not_the_first_that_fits = refl
 beside_one_another : sizes three_tasks (0 ∷ 2 ∷ 1 ∷ []) ≡ 1440 ∷ 1028 ∷ []
 beside_one_another = refl
 
--- A task of two datagrams; each fills a frame of its own: the frames have serials of their own, and so have the datagrams their data.
+-- A task of two datagrams, each in a frame of its own: the frames have serials of their own, and so have the datagrams their data.
 
 abbrev long_slaves : List Slave
 long_slaves =
@@ -187,7 +187,7 @@ long_slaves =
     }
     ∷ []
 
--- 8 bytes, and 1,480 that do not fit after them into 1,486
+-- the 8 bytes of the first datagram, and the first 8 of the second one's 1,480, which do not fit after those of the first into 1,486
 abbrev first_bytes : List ℕ
 first_bytes = 0x01 ∷ 0x02 ∷ 0x03 ∷ 0x04 ∷ 0x05 ∷ 0x06 ∷ 0x07 ∷ 0x08 ∷ []
 

@@ -49,7 +49,7 @@ lost_writes_count :
 unfolding bit_of number_of starts_within
 lost_writes_count = refl
 
--- a task without datagrams waits, and sends no frame once it is ready
+-- a task without datagrams waits as well, also after a write that missed
 no_datagram_waits :
     answers_to (entries_after_all written moved_and_back) (SendsReady (1 ∷ []) ∷ SendsWrite ∷ write_back 5 0x0610 16 0 ∷ SendsReady (1 ∷ []) ∷ [])
     ≡ answer.Refused (Waits 1 1 0)
@@ -66,8 +66,8 @@ two_moves : waits (entries_after_all written (input_to 1 ∷ input_to 2 ∷ []))
 unfolding bit_of number_of starts_within
 two_moves = refl
 
--- A write that missed, one that is lost, and the late answer to one that was sent again since leave the bytes that the register
--- may hold. The good answer to the last one does not.
+-- A write that missed, and the late answer to one that was sent again since, leave the bytes that the register may hold. The good answer to the
+-- last write does not.
 
 abbrev late_answers : List Step
 late_answers = input_to 1 ∷ SendsWrite ∷ write_back 4 0x0610 16 0 ∷ SendsWrite ∷ SendsWrite ∷ write_back 5 0x0610 16 1 ∷ []

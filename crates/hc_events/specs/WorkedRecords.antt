@@ -99,14 +99,14 @@ moved_answers : answers_to posted (to_task_1 ∷ Posts 1 0 (2 ∷ []) ∷ SendsT
 unfolding bit_of number_of starts_within
 moved_answers = refl
 
--- its value goes with the variable
+-- a variable keeps its value when its area moves to another task
 
 moved_is_sent : answer_to moved (SendsTasks (1 ∷ []))
     ≡ answer.Sent ((head_of 6 0x0d ++ 0x0c ∷ 0x06 ∷ 0 ∷ 0 ∷ 0 ∷ 0x02 ∷ 0x01 ∷ 0 ∷ 0 ∷ 0 ∷ 0x02 ∷ replicate 33 0) ∷ [])
 unfolding bit_of number_of starts_within
 moved_is_sent = refl
 
--- and is gone once the variable had no place in between; the blocks are then known again as they were
+-- a variable's value is lost once the variable had no place in between; the blocks are then known again as they were
 
 abbrev lost_and_found : History
 lost_and_found = entries_after_all moved (SendsTasks (1 ∷ []) ∷ Edits (Remap 1001 0 []) ∷ Edits (Remap 1001 0 (0x1600 ∷ [])) ∷ [])

@@ -27,7 +27,7 @@ in_its_own_task : epochs cell [] ∷ epochs cell (Connect 100 ∷ []) ∷ epochs
 unfolding bit_of number_of starts_within
 in_its_own_task = refl
 
--- A probe that has an input area in task 0 comes there: the datagram gets longer and its counter higher, so the edit raises the task's epoch.
+-- A probe that has an input area in task 0 comes there: the datagram keeps its 3 bytes, and its expected counter gets higher, so the edit raises the task's epoch.
 
 abbrev probe : Slave
 probe = record { station = 1005; areas = area_of 3 In 0x1180 0x1a00 5 4 ∷ [] }
@@ -196,7 +196,7 @@ steady_posts_in_a_shared_task :
 unfolding bit_of number_of starts_within
 steady_posts_in_a_shared_task = refl
 
--- The spindle is remapped in task 1: posts of task 0 count, and those of task 1 no longer. After a second remap too, posts of task 0 count from the opening on, and posts of task 1 from the second remap on.
+-- The spindle is remapped in task 1: posts of the epoch before count for task 0, and no longer for task 1. After a second remap too, posts of task 0 count from the opening on, and posts of task 1 from the second remap on.
 
 steady_posts_over_remaps :
     posts_after with_spindle 1 (Remap 1002 0 (0x1601 ∷ []) ∷ [])

@@ -72,12 +72,12 @@ pub record IsDone (history : History) (round : Round) : Type 0 where
 abbrev pub after_done : History → Round → History
 after_done history round = Came round.arrival ∷ answered_at history round
 
--- such frames one after another, each with its answer; the record after them; and the blocks that they carry
+-- frames of register writes one after another, each done with its answer (`IsDone`)
 abbrev pub AreDone : History → List Round → Type 0
 AreDone history [] = Unit {0}
 AreDone history (round ∷ rounds) = IsDone history round × AreDone (after_done history round) rounds
 
--- the record that is left
+-- the record after all the frames and their answers
 abbrev pub after_all_done : History → List Round → History
 after_all_done history [] = history
 after_all_done history (round ∷ rounds) = after_all_done (after_done history round) rounds

@@ -19,7 +19,8 @@ pub enum Outcome {
         /// The working counter in the frame.
         got: u16,
     },
-    /// The datagram was sent again since, and nothing changed.
+    /// The datagram is out of date, and nothing changed: it was sent again since. A register write is also out of date if its
+    /// slave was forgotten since, or if another slave was forgotten since and a register write was sent after that.
     Stale,
     /// The register block's datagram has working counter 1: the block is confirmed.
     Done,
@@ -36,8 +37,7 @@ pub enum Arrived {
     WriteDone,
     /// The frame answers a register write, with another working counter: the block stays owed.
     WriteMissed,
-    /// The frame answers no sending, or each datagram or the register block of that sending was sent again since: nothing
-    /// changed.
+    /// The frame answers no sending, or each datagram of that sending is out of date (`Outcome::Stale`): nothing changed.
     Stale,
     /// The frame answers a frame of several register writes, and the list has the outcome of each block, in the frame's order:
     /// `Done`, `Missed` or `Stale`.
@@ -92,8 +92,7 @@ pub enum Answer {
     /// The frame answers a frame of several register writes: the outcome of each block, in the frame's order, `Done`, `Missed`
     /// or `Stale`.
     Written(Items<Outcome>),
-    /// The frame answers no sending, or each datagram or the register block of that sending was sent again since: nothing
-    /// changed.
+    /// The frame answers no sending, or each datagram of that sending is out of date (`Outcome::Stale`): nothing changed.
     Stale,
     /// The image of a task.
     Image {

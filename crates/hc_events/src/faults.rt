@@ -14,7 +14,7 @@ pub enum CoreFault {
     /// No group has the alias.
     #[error("no group has the alias")]
     UnknownAlias,
-    /// The group is in the line already.
+    /// The group is in the line already. An event that unplugs a slave is refused with it if the slave is in the line.
     #[error("the group is present already")]
     AlreadyPresent,
     /// The group is not in the line.

@@ -22,7 +22,7 @@ ghost use Rattle.hc_events.specs.Stale.{StaleArrivalsCanGo, StaleChangesNothing,
 /// A record with an arrival that was stale when it came, and the same record without it, whatever was recorded since: all later
 /// events have the same answers after both, and lead to records that agree on the line, the epoch, the next serial, the input
 /// images and the serials of their data, the output values, the known bytes, the register blocks that are under way, what the
-/// registers may hold, and the slaves that are unplugged.
+/// registers may hold, the slaves that are unplugged, the tasks' epochs and steady data, and the updates.
 pub fn stale_changes_nothing()
     ensures { StaleChangesNothing }
 {}
@@ -55,10 +55,10 @@ pub fn unreadable_changes_nothing()
 {}
 
 /// Each entry of a record that events led to was accepted when it came: an edit by the state, a post by its task and its
-/// length, a frame of tasks because all its datagrams are the line's and nothing was owed, a frame of register writes as the
-/// first owed block's, or of the first ones, or of the first ones that are not under way, as many as it holds. No more sendings
-/// were made than there are serials, and the record begins with the groups that were opened. The laws of such records have
-/// these premises.
+/// length, a frame of tasks because all its datagrams are the line's and nothing was owed or its tasks were ready, a frame of
+/// register writes as the first owed block's, or of the first ones, or of the first ones that are not under way, as many as it
+/// holds. No more sendings were made than there are serials, and the record begins with the groups that were opened. The laws of
+/// such records have these premises.
 pub fn records_are_reachable()
     ensures { RecordsAreReachable }
 {}
@@ -351,8 +351,8 @@ pub fn histories_without_forgetting()
     ensures { HistoriesWithoutForgetting }
 {}
 
-/// If no slave is lost and no frame of several writes is sent, the definitions without these two events give each event the
-/// same answer, and the same history.
+/// If all events are edits, posts, sendings of tasks, register writes of one block each, arrivals and reads, the definitions
+/// without the other events give each event the same answer, and the same history.
 pub fn events_without_forgetting()
     ensures { EventsWithoutForgetting }
 {}

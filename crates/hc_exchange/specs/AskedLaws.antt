@@ -55,7 +55,7 @@ AskedOutputsArrive Asked state =
     → MeetsCarrying Asked state machines k member memory → AreAsked Asked from bytes → slice_get (memories_after machines from bytes) k ≡ Some memory'
     → bit < 8 * length bytes → LinePairsIn (line state) Out member.slave.station (from + bit) m → bit_of memory' m ≡ bit_of bytes bit
 
--- every other bit of a slave's memory is as it was, in its registers too
+-- each bit of a slave's memory that no output area pairs with a bit of the data is as it was, in its registers too
 abbrev pub MemoryBesideAskedStays : (ℕ → Type 0) → State → Type 0
 MemoryBesideAskedStays Asked state =
     (machines : List (List ℕ)) (k : ℕ) (member : Member) (memory memory' bytes : List ℕ) (from m : ℕ)
@@ -97,7 +97,7 @@ AllAskedOutputsArrive Asked state =
     → MeetsCarrying Asked state machines k member memory → AllAreAsked Asked ds → AllPairs LogicalsAreApart ds → HasBit ds n d bit
     → LinePairsIn (line state) Out member.slave.station (d.from + bit) m → slice_get (all_after_frames machines ds) k ≡ Some memory' → bit_of memory' m ≡ bit_of d.bytes bit
 
--- every other bit of a slave's memory is after the last datagram as it was before the first
+-- each bit of a slave's memory that no output area pairs with a bit of the datagrams is after the last one as it was before the first
 abbrev pub MemoryBesideAllAskedStays : (ℕ → Type 0) → State → Type 0
 MemoryBesideAllAskedStays Asked state =
     (machines : List (List ℕ)) (k : ℕ) (member : Member) (memory memory' : List ℕ) (ds : List Logical) (m : ℕ)

@@ -36,7 +36,7 @@ count_through (memory ∷ machines) from n = logical_count memory from n + count
 abbrev pub logical_part : ℕ → List ℕ → ℕ → WireDatagram
 logical_part address bytes counter = record { command = Lrw; address = address; interrupt = 0; bytes = bytes; counter = counter }
 
--- (c of Pairs) x and m are a pair of an area of the slave with a station address, and the area has this direction
+-- logical bit x and memory bit m are a pair of an area of the slave with a station address (`LinePairs`), and the area has this direction
 pub record LinePairsIn (line : List Member) (dir : Dir) (station x m : ℕ) : Type 0 where
   pub areas : LinePairs line station x m
   pub direction : areas.area.dir ≡ dir

@@ -9,7 +9,7 @@ use Rattle.hc_exchange.specs.Writing.{AreMachinesOf}
 use Rattle.hc_exchange.specs.WritingLaws.{machines_written}
 use Rattle.hc_exchange.specs.Carrying.{AreProgrammed, LinePairsIn, data_through, memories_after}
 
--- a datagram from a logical bit on with these data meets the machines of a line; the k-th of them is a slave's
+-- the machines of a line that can be configured are programmed; the k-th of them is a slave's
 pub record Meets (state : State) (machines : List (List ℕ)) (k : ℕ) (member : Member) (memory : List ℕ) : Type 0 where
   pub configurable : IsConfigurable state
   pub programmed : AreProgrammed (line state) machines
@@ -35,7 +35,7 @@ OutputsArrive =
     → slice_get (memories_after machines from bytes) k ≡ Some memory' → bit < 8 * length bytes → LinePairsIn (line state) Out member.slave.station (from + bit) m
     → bit_of memory' m ≡ bit_of bytes bit
 
--- every other bit of a slave's memory is as it was
+-- each bit of a slave's memory that no output area pairs with a bit of the data is as it was
 abbrev pub OtherMemoryStays : Type 0
 OtherMemoryStays =
     (state : State) (machines : List (List ℕ)) (k : ℕ) (member : Member) (memory memory' bytes : List ℕ) (from m : ℕ) → Meets state machines k member memory

@@ -19,7 +19,7 @@ pub record PassesLogical (machines : List (List ℕ)) (serial address : ℕ) (by
       ≡ record { serial = serial; parts = logical_part address (data_through machines (8 * address) bytes) (count_through machines (8 * address) (length bytes) % 65536) ∷ [] }
   pub memories : machines_after_frame machines frame ≡ memories_after machines (8 * address) bytes
 
--- each frame of a logical datagram passes machines so, as it is sent
+-- `PassesLogical` holds for the frame of each logical datagram, as it is sent
 abbrev pub LogicalFramesPass : Type 0
 LogicalFramesPass =
     (machines : List (List ℕ)) (serial address : ℕ) (bytes : List ℕ) → All (λ m. length m ≡ MEMORY_BYTES) machines → CanBeCarried serial (sent_on_wire (lrw address bytes) ∷ [])
@@ -47,13 +47,13 @@ datagrams_after_machines machines (d ∷ ds) =
     logical_part d.address (data_through machines (8 * d.address) d.bytes) (count_through machines (8 * d.address) (length d.bytes) % 65536)
     ∷ datagrams_after_machines (memories_after machines (8 * d.address) d.bytes) ds
 
--- the frame that datagrams share is read after machines with the parts of one after another, and the machines are those after them so
+-- the frame that datagrams share is read after machines: its datagrams and the machines are as if each datagram had gone in a frame of its own, one after another
 pub record PassesAll (machines : List (List ℕ)) (serial : ℕ) (ds : List Addressed) (frame : List ℕ) : Type 0 where
   pub readable : fault_in (frame_through machines frame) ≡ None
   pub reading : reading_of (frame_through machines frame) ≡ record { serial = serial; parts = datagrams_after_machines machines ds }
   pub memories : machines_after_frame machines frame ≡ all_after_frames machines (map logical_of ds)
 
--- each frame of logical datagrams passes machines so, as it is sent: they do in one frame what they do in frames of their own
+-- `PassesAll` holds for each frame of logical datagrams, as it is sent
 abbrev pub SharedFramesPass : Type 0
 SharedFramesPass =
     (machines : List (List ℕ)) (serial : ℕ) (ds : List Addressed) → All (λ m. length m ≡ MEMORY_BYTES) machines

@@ -78,6 +78,6 @@ IsExchangedWhenReady line task serial image machines frames machines' =
     (history : History) (wire : List WireMachine) → IsRecord history → line_of history ≡ line → machines ≡ wire_machines wire → HoldRegisters history wire → is_ready history task ≡ true
     → IsExchangedOnWire line task serial image wire frames machines'
 
--- the line of each such record can be configured
+-- the line of each record that begins with a project that can be configured (`IsRecord`) can be configured
 abbrev pub RecordsAreConfigurable : Type 0
 RecordsAreConfigurable = (history : History) → IsRecord history → IsConfigurable (state_of history)

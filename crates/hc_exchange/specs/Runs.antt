@@ -128,7 +128,7 @@ pub record TakesWrites (passed : ℕ → Bool) (history : History) (member : Mem
       → passed write.0 ≡ true → slice_range memory block.block.register (block.block.register + length block.block.bytes) ≡ write.1
   pub held : (index : ℕ) → index < length member.slave.areas → MayHoldBytes (may_hold history member.slave.station (2 * index + 1)) (fmmu_block_at memory index)
 
--- the machines of the wire took their writes so, and each block that had a good answer was in a frame that passed all machines
+-- `TakesWrites` holds for each machine of the line, and each block that had a good answer was in a frame that passed all machines
 pub record TakeWrites (passed : ℕ → Bool) (history : History) (wire : List WireMachine) : Type 0 where
   pub count : length (line_machines wire) ≡ length (line_of history)
   pub each : (k : ℕ) (member : Member) (memory : List ℕ) → slice_get (line_of history) k ≡ Some member → slice_get (line_machines wire) k ≡ Some memory

@@ -44,6 +44,6 @@ pub record IsSentOver (line : List Member) (task serial : ℕ) (image : List ℕ
   pub returned : frames ≡ frames_through machines (task_frames serial task (task_datagram_count line task) bytes)
   pub left : machines' ≡ machines_after machines (task_frames serial task (task_datagram_count line task) bytes)
 
--- after the writes of all blocks of the line these frames go through its machines
+-- the frames of a task go through the machines of a line after the writes of all its blocks, with the serials after those of the writes
 abbrev pub IsSent : List Member → ℕ → List ℕ → List (List ℕ) → List (List ℕ) → List (List ℕ) → Type 0
 IsSent line task image machines frames machines' = IsSentOver line task (length (line_blocks line)) image (machines_written line machines) frames machines'

@@ -18,12 +18,12 @@ abbrev pub all_through : List (List ℕ) → List Logical → List (List ℕ)
 all_through machines [] = []
 all_through machines (d ∷ ds) = data_through machines d.from d.bytes ∷ all_through (memories_after machines d.from d.bytes) ds
 
--- the machines after all of them
+-- the machines after logical datagrams, one after another
 abbrev pub all_after_frames : List (List ℕ) → List Logical → List (List ℕ)
 all_after_frames machines [] = machines
 all_after_frames machines (d ∷ ds) = all_after_frames (memories_after machines d.from d.bytes) ds
 
--- a bit of one of the datagrams
+-- datagram n of a list, counted from 0, and one of its bits
 pub record HasBit (ds : List Logical) (n : ℕ) (d : Logical) (bit : ℕ) : Type 0 where
   pub is : slice_get ds n ≡ Some d
   pub below : bit < 8 * length d.bytes
@@ -46,7 +46,7 @@ AllOutputsArrive =
     → Meets state machines k member memory → AllPairs LogicalsAreApart ds → HasBit ds n d bit → LinePairsIn (line state) Out member.slave.station (d.from + bit) m
     → slice_get (all_after_frames machines ds) k ≡ Some memory' → bit_of memory' m ≡ bit_of d.bytes bit
 
--- every other bit of a slave's memory is as it was
+-- each bit of a slave's memory that no output area pairs with a bit of the datagrams is as it was
 abbrev pub AllOtherMemoryStays : Type 0
 AllOtherMemoryStays =
     (state : State) (machines : List (List ℕ)) (k : ℕ) (member : Member) (memory memory' : List ℕ) (ds : List Logical) (m : ℕ)

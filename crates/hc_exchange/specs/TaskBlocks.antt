@@ -68,7 +68,7 @@ pub record IsBeforeTask (line : List Member) (task : ℕ) (member : Member) (mem
   pub others : (i x m : ℕ) → i < FMMUS → IsBitOfTask line task x → IsPair (fmmu_block_at memory i) x m → (area : Area) × IsTaskArea task member i area
   pub all_bytes : AreBytes memory
 
--- the machines are the line's, in its order, and each is so before the writes
+-- the machines are the line's, in its order, and `IsBeforeTask` holds for each before the writes
 pub record AreBeforeTask (line : List Member) (task : ℕ) (machines : List (List ℕ)) : Type 0 where
   pub count : length machines ≡ length line
   pub each : (k : ℕ) (member : Member) (memory : List ℕ) → slice_get line k ≡ Some member → slice_get machines k ≡ Some memory → IsBeforeTask line task member memory

@@ -43,7 +43,7 @@ wire_after [] from bytes = []
 wire_after (InLine memory ∷ wire) from bytes = InLine (logical_memory memory from bytes) ∷ wire_after wire from (logical_data memory from bytes)
 wire_after (Outside memory ∷ wire) from bytes = Outside (logical_memory memory from bytes) ∷ wire_after wire from (logical_data memory from bytes)
 
--- the wire after several, each in a frame of its own
+-- the wire after logical datagrams one after another, each in a frame of its own
 abbrev pub wire_after_all : List WireMachine → List Logical → List WireMachine
 wire_after_all wire [] = wire
 wire_after_all wire (d ∷ ds) = wire_after_all (wire_after wire d.from d.bytes) ds

@@ -14,7 +14,7 @@ pub record PassesOutsiders (wire : List WireMachine) (from : ℕ) (bytes : List 
   pub of_line : line_machines (wire_after wire from bytes) ≡ memories_after (line_machines wire) from bytes
   pub outside : outside_machines (wire_after wire from bytes) ≡ outside_machines wire
 
--- each datagram whose bits the others pass comes back so
+-- `PassesOutsiders` holds for each datagram whose bits the wire carries: the line's machines carry them, and the others pass them
 abbrev pub OutsidersPassDatagrams : (ℕ → Type 0) → State → Type 0
 OutsidersPassDatagrams Asked state =
     (wire : List WireMachine) (bytes : List ℕ) (from : ℕ) → WireCarries Asked (line state) wire → AreAsked Asked from bytes → AreBytes bytes

@@ -12,14 +12,14 @@ use Rattle.hc_exchange.specs.Writing.{AreMachinesOf, ChangesBlocksAlone, IsProgr
 abbrev pub machines_written : List Member → List (List ℕ) → List (List ℕ)
 machines_written line machines = machines_after machines (write_frames 0 (line_blocks line))
 
--- a machine after these frames has its slave's blocks, and nothing else of it is changed
+-- a machine after these frames has its slave's blocks, and no byte of it below the FMMU blocks and none of process memory is changed
 pub record MachineIsWritten (line : List Member) (member : Member) (memory : List ℕ) (k : ℕ) (machines : List (List ℕ)) : Type 0 where
   pub written : List ℕ
   pub machine : slice_get (machines_written line machines) k ≡ Some written
   pub programmed : IsProgrammed line member written
   pub alone : ChangesBlocksAlone memory written
 
--- each machine of the line is written so
+-- `MachineIsWritten` holds for each machine of a line that can be configured
 abbrev pub WritingProgramsTheLine : Type 0
 WritingProgramsTheLine =
     (state : State) (machines : List (List ℕ)) (k : ℕ) (member : Member) (memory : List ℕ) → IsConfigurable state → AreMachinesOf (line state) machines

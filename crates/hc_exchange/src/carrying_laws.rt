@@ -21,13 +21,14 @@ pub fn outputs_arrive()
     ensures { OutputsArrive }
 {}
 
-/// After a datagram through a programmed line, every other bit of a slave's memory is as it was.
+/// After a datagram through a programmed line, each bit of a slave's memory that no output area pairs with a bit of the data is
+/// as it was.
 pub fn other_memory_stays()
     ensures { OtherMemoryStays }
 {}
 
-/// As many bytes come back as were sent, and each machine is programmed as before, so the next datagram meets a programmed line
-/// too.
+/// A datagram through a programmed line comes back with as many bytes as were sent, and each machine is programmed as before,
+/// so the next datagram meets a programmed line too.
 pub fn lines_stay_programmed()
     ensures { LinesStayProgrammed }
 {}
@@ -66,13 +67,14 @@ pub fn all_inputs_are_brought_back()
     ensures { AllInputsAreBroughtBack }
 {}
 
-/// If no two of the datagrams have a logical bit in common, each output's bit of each of them is in its slave's memory after
-/// the last.
+/// If no two of the datagrams that are sent through a programmed line have a logical bit in common, each output's bit of each of
+/// them is in its slave's memory after the last.
 pub fn all_outputs_arrive()
     ensures { AllOutputsArrive }
 {}
 
-/// After datagrams through a programmed line, every other bit of a slave's memory is as it was before the first.
+/// After datagrams through a programmed line, each bit of a slave's memory that no output area pairs with a bit of their data is
+/// as it was before the first.
 pub fn all_other_memory_stays()
     ensures { AllOtherMemoryStays }
 {}

@@ -22,10 +22,11 @@ pub fn taken_writes_are_held()
     ensures { TakenWritesAreHeld }
 {}
 
-/// Each accepted entry of a record keeps what the machines of the line took of its writes, under four premises. Frames pass
+/// Each accepted entry of a record keeps what the machines of the line took of its writes, under these premises. Frames pass
 /// each slave in the order in which they were handed to the line: all machines of the wire, or the first ones. A frame comes
 /// back only if it passed all machines. A slave that was cleared has zeros in its FMMUs. One that lost its registers has zeros
-/// there, or what it had.
+/// there, or what it had. With an edit, a slave that stays in the line keeps its memory, and a new one has its station address
+/// and zeros in the FMMUs past its areas. A machine outside the line pairs nothing, or is a declared slave still plugged.
 pub fn entries_keep_registers()
     ensures { EntriesKeepRegisters }
 {}

@@ -57,7 +57,7 @@ pub fn writing_keeps_the_count()
     ensures { WritingKeepsTheCount }
 {}
 
-/// The sixteen FMMUs of a slave that is programmed so pair exactly the bits of its areas, where packing puts them.
+/// The sixteen FMMUs of a programmed slave pair exactly the bits of its areas, at their places in the datagrams.
 pub fn programmed_slaves_pair_their_areas()
     ensures { ProgrammedSlavesPairTheirAreas }
 {}

@@ -28,8 +28,8 @@ fn write_block(segment: &mut Segment, serial: u64, station: u16, block: &Block)
 /// frame of its own, with serials from 0 on. It does not allocate.
 ///
 /// If the machines are the line's, in its order, with their station addresses and zeros in the FMMU blocks past their slaves'
-/// areas, each has its slave's blocks then, pairs exactly the bits of its areas, and is otherwise as before: the laws of
-/// `programmed_laws`.
+/// areas, each has its slave's blocks then, and pairs exactly the bits of its areas. No byte below the FMMU blocks and none of
+/// process memory is changed: the laws of `programmed_laws`.
 pub fn program(plan: &Plan, segment: &mut Segment)
     ensures { segment.new ≡ machines_written (line plan.now) segment.old }
 {

@@ -33,8 +33,8 @@ pub fn asked_outputs_arrive()
     ensures { HoldsForTasks AskedOutputsArrive }
 {}
 
-/// If machines carry each bit of a logical datagram, then every other bit of a slave's memory stays as it was, registers
-/// included.
+/// If machines carry each bit of a logical datagram, then each bit of a slave's memory that no output area pairs with a bit of
+/// the data stays as it was, registers included.
 pub fn memory_beside_asked_stays()
     ensures { HoldsForTasks MemoryBesideAskedStays }
 {}
@@ -57,14 +57,14 @@ pub fn all_asked_inputs_are_brought_back()
     ensures { HoldsForTasks AllAskedInputsAreBroughtBack }
 {}
 
-/// If no two of the datagrams have a logical bit in common and machines carry each of their bits, each output's bit of each
-/// datagram is in its slave's memory after the last.
+/// If no two of some logical datagrams have a logical bit in common and machines carry each of their bits, each output's bit of
+/// each datagram is in its slave's memory after the last.
 pub fn all_asked_outputs_arrive()
     ensures { HoldsForTasks AllAskedOutputsArrive }
 {}
 
-/// If machines carry each bit of some logical datagrams, every other bit of a slave's memory is after the last as it was before
-/// the first.
+/// If machines carry each bit of some logical datagrams, each bit of a slave's memory that no output area pairs with a bit of
+/// their data is after the last as it was before the first.
 pub fn memory_beside_all_asked_stays()
     ensures { HoldsForTasks MemoryBesideAllAskedStays }
 {}
@@ -85,8 +85,8 @@ pub fn wires_stay_carrying()
     ensures { HoldsForTasks WiresStayCarrying }
 {}
 
-/// Simulated slaves exchange a task's data if each has the FMMU blocks of its areas in the task, and none of its other FMMUs
-/// maps a logical bit of the task's datagrams. Blocks of other tasks need not be written.
+/// Machines carry a task if each has the FMMU blocks of its slave's areas in the task, and none of its other FMMUs pairs a
+/// logical bit of the task's datagrams. Blocks of other tasks need not be written.
 pub fn task_blocks_carry()
     ensures { TaskBlocksCarry }
 {}

@@ -52,7 +52,7 @@ fmmu_of block =
     }
     else idle
 
--- the sixteen, in the order of their numbers
+-- the sixteen FMMUs that a slave's memory holds, in the order of their numbers
 unfoldable pub fmmus_of : List ℕ → List Fmmu
 fmmus_of memory = map (λ i. fmmu_of (fmmu_block_at memory i)) (range_with_len 0 FMMUS)
 

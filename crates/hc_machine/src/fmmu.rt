@@ -103,7 +103,7 @@ fn add_mapped(mapped: &mut ArrayVec<Fmmu, 16>, memory: &[u8], i: usize, from: us
     }
 }
 
-/// Adds the FMMUs that pair one of the `n` logical bits from `from` on to none, in the order of their numbers.
+/// Adds the FMMUs that pair one of the `n` logical bits from `from` on to an empty list, in the order of their numbers.
 pub(crate) fn add_all_mapped(mapped: &mut ArrayVec<Fmmu, 16>, memory: &[u8], from: usize, n: usize)
     requires none { mapped.old.items ≡ [] }
     requires memory { length memory.now ≡ MEMORY_BYTES }

@@ -139,7 +139,7 @@ fn mixes_any(fmmus: &[Fmmu]) -> bool
 }
 
 /// Puts the memory bits that are read into the data, and the data bits that came in into memory, by the FMMUs that the datagram
-/// meets. The data that came in are kept in `spare` if a bit of them is both read and written.
+/// meets. The data that came in are kept in `spare` if these FMMUs both read and write a logical bit.
 fn exchange_data(fmmus: &[Fmmu], memory: &mut [u8], spare: &mut [u8], from: usize, bytes: &mut [u8])
     requires mapped { fmmus.now ≡ filter (fmmu_meets from (8 * length bytes.old)) (fmmus_of memory.old) }
     requires in_memory { All IsInMemory fmmus.now }

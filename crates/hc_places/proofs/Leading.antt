@@ -63,7 +63,7 @@ task-replaced (c ∷ others) tasks task ascends =
     ∙ said-by (c.0 == task) c (find (λ (c : ChangedTask). c.0 == task) others) (slice_get tasks task)
     (λ here. none-said task others (rw (← (eqb-true c.0 task here)) (ascends-above c others ascends)))
 
--- a task is new as a change says, if no task comes or goes
+-- a task's new table is the one that a change says for it, otherwise its old one, if the old line has as many tasks as the new one
 
 as-many : {X : Type 0} (xs ys : List X) (i : ℕ) (y : X) → length xs ≡ length ys → slice_get ys i ≡ Some y → option_map (λ _. y) (slice_get xs i) ≡ Some y
 as-many [] [] i y same is = cc

@@ -62,7 +62,7 @@ with_datagram_use task table datagram_use = record {
   inputs = table.inputs + (datagram_use.length - datagram_use.outputs);
 }
 
--- the table of so many datagrams of a task, from the first one on, and of all
+-- the table of so many datagrams of a task, from the first one on
 abbrev pub loaded : ℕ → List Placed → ℕ → TaskTable
 loaded task areas zero = no_datagrams
 loaded task areas (suc datagram) = with_datagram_use task (loaded task areas datagram) (datagram_use_in areas datagram)

@@ -29,7 +29,7 @@ pub record IsInOrder (change : Change) : Type 0 where
   pub tasks : ChangesAscend change.tasks
   pub rows : ChangesAscend change.rows
 
--- a swap names the edit that asks for it
+-- a swap: the edit that asks for it, and its change of the table
 pub record Swap : Type 0 where
   pub edit : Edit
   pub change : Change

@@ -44,7 +44,7 @@ at task bit bits dir = record { task = task; datagram = 0; bit = bit; bits = bit
 abbrev none : TaskTable
 none = record { datagrams = []; outputs = 0; inputs = 0 }
 
--- the first slave writes and reads in task 0's datagram and the second one writes: 3 and 2; in task 1's the second one reads
+-- in task 0's datagram the first slave has outputs and inputs, and the second one outputs: they add 3 and 2; in task 1's the second one has inputs, and adds 1
 two_slaves_table : table_of two_slaves ≡ record {
   tasks =
       record { datagrams = record { address = 0x0100_0000; length = 3; expected = 5; offset = 0 } ∷ []; outputs = 2; inputs = 1 }

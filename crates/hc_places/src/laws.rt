@@ -15,13 +15,14 @@ pub fn changed_variables_differ()
     ensures { ChangedVariablesDiffer }
 {}
 
-/// Each changed variable of two tables is counted once, if both tables have each variable once.
+/// Each changed variable of two tables is counted once, if both tables have each variable once, in the order of their numbers.
 pub fn changed_variables_occur_once()
     ensures { ChangedVariablesOccurOnce }
 {}
 
 /// In the table that a swap leads to, a variable that the swap names has the place that the swap says, or none if the swap says
-/// none. Every other variable has the place that it had. The table before the swap is any table that has each variable once.
+/// none. Every other variable has the place that it had. The table before the swap is any table that has each variable once, in
+/// the order of their numbers.
 pub fn swaps_move_their_variables()
     ensures { SwapsMoveTheirVariables }
 {}

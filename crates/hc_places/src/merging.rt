@@ -85,7 +85,7 @@ pub(crate) fn count_near(rows: &[VariableRow], variable: VarId) -> usize
     count_below(&rows[..reach], variable)
 }
 
-/// Returns the number of rows with a lower number than a variable's, of which the first `front` are known.
+/// Returns the number of rows with a lower number than a variable's. The first `front` rows are known to be such rows.
 pub(crate) fn count_from(rows: &[VariableRow], front: usize, variable: VarId) -> usize
     requires ascends { RowsAscend rows.now }
     requires front { front ≤ length rows.now }

@@ -143,8 +143,8 @@ fn merge_rows(rows: &mut Vec<VariableRow>, changed: &[ChangedRow], into: Vec<Var
     }
 }
 
-/// Merges changes into rows in place; changes before the first that adds or removes a row, and after the last, overwrite their
-/// rows.
+/// Changes rows, with the help of memory that has room for all. The changes before the first that adds or removes a row, and
+/// after the last such change, overwrite their rows; those between are merged.
 pub(crate) fn change_middle(
     rows: &mut Vec<VariableRow>,
     changed: &[ChangedRow],

@@ -133,7 +133,7 @@ length-blocks layout all [] mapped = omega arith
 length-blocks layout all (member ∷ members) mapped =
     search (rules, All-head, length-member, length-append, All-tail, length-blocks layout all members (All-tail (IsMappedSlave layout) member members mapped))
 
--- no line has more blocks than a number of 32 bits
+-- the number of blocks of a line has 32 bits
 few-blocks : (groups : List Declared) (layout : List (List Placed)) → IsLayoutOf groups layout → length (line_blocks (line_from 1 groups)) < 4294967296
 few-blocks groups layout known =
     let line = line_from 1 groups in

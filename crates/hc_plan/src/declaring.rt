@@ -288,8 +288,8 @@ fn put_trees(cuts: &mut LineCuts, slaves: u16, wider: Option<LineCuts>)
     }
 }
 
-/// Returns the report of a declared group: a new epoch begins, and nothing of the line changes. Fails with `AllocError` if an
-/// allocation fails.
+/// Returns the report of an edit that leaves the line configured as it was: it declares a group, or moves an area without bits.
+/// A new epoch begins, and nothing of the line changes. Fails with `AllocError` if an allocation fails.
 pub(crate) fn declared_report(
     alloc: Global,
     edit: &Edit,

@@ -126,7 +126,7 @@ impl Plan {
         })
     }
 
-    /// Prepares any other edit.
+    /// Prepares an edit that declares no group. The trees of the line's tasks are turned to the new line and back.
     fn prepare_change(&mut self, alloc: Global, edit: &Edit) -> Result<PreparedEdit, EditFault>
         requires { declares edit.now ≡ false }
         ensures made { IfOk result (λ prepared. prepared.old ≡ self.old) }
@@ -164,8 +164,8 @@ impl Plan {
         })
     }
 
-    /// Carries out a prepared edit in the plan that it was worked out on, as it was then. The plan then has the new line, and
-    /// the returned report has the differences. It cannot fail, and it allocates nothing.
+    /// Carries out a prepared edit in the plan that it was worked out on, which has not changed since. The plan then has the new
+    /// line, and the returned report has the differences. It cannot fail, and it allocates nothing.
     pub fn carry_out(&mut self, prepared: PreparedEdit) -> Report
         requires { prepared.old ≡ self.old }
         ensures plan { self.new ≡ prepared.new }

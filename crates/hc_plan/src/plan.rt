@@ -195,8 +195,8 @@ impl Plan {
         self.blocks.at(place)
     }
 
-    /// Returns the lowest fault that a remap with these indexes has by itself, as an edit of it is judged. A caller with the
-    /// indexes in a slice needs no list of them. It allocates nothing.
+    /// Returns the lowest fault, one of 5 to 11, that a remap to these PDO indexes has by itself; none if it has none. `prepare`
+    /// judges the same edit alike, but the edit owns a list of the indexes. It allocates nothing.
     pub fn remap_fault(&self, station: u16, area: u8, pdos: &[u16]) -> Option<EditFault>
         ensures { result ≡ own_fault self.now.groups (Remap station area pdos.now) }
     {
@@ -251,8 +251,8 @@ impl Plan {
     }
 
     /// Returns the number, 0 to 3, that the slave with a station address adds to the working counter of the datagram of a task
-    /// with a number. It is 2 if the datagram carries outputs of the slave, and 1 if it carries inputs (ETG.1000.4, 5.4). None
-    /// if the task has no such datagram, or the line has no such slave. All slaves of the line together add the datagram's
+    /// with a number: 2 if the datagram carries outputs of the slave, 1 if it carries inputs, and 3 if both (ETG.1000.4, 5.4).
+    /// None if the task has no such datagram, or the line has no such slave. All slaves of the line together add the datagram's
     /// expected counter.
     pub fn counter_share(&self, task: u8, datagram: u8, station: u16) -> Option<u16>
         ensures value { result ≡ share_at (line self.now) task datagram station }

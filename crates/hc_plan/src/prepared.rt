@@ -71,7 +71,8 @@ impl PreparedEdit {
         self.blocks.as_slice()
     }
 
-    /// Returns the slaves that leave the line: those of a group that goes. It allocates nothing.
+    /// Returns the slaves that leave the line: those of a group that the edit disconnects, none with any other edit. It
+    /// allocates nothing.
     pub fn gone(&self) -> Gone
         ensures gone { result ≡ self.now.gone }
         ensures prepared { IsPrepared self.now }

@@ -1,5 +1,5 @@
 //! The share of a slave in the working counter of a datagram, from the places of the slave's areas (ETG.1000.4, 5.4: a slave
-//! that reads adds 1, one that writes 2, one that does both 3).
+//! whose inputs are read adds 1, one whose outputs are written 2, one with both 3).
 ghost use Rattle.std.specs.Prelude.{◌≡◌, ◌+◌, ◌≤◌, IfSome, length};
 ghost use Rattle.std.specs.List.{enumerate_from, list_any};
 ghost use Rattle.hc_records.specs.declared.limits.TheConstants.{MOST_AREAS};

@@ -4,7 +4,7 @@ use hc_cuts::starts::LineStarts;
 use hc_groups::prepared::Prepared;
 use hc_places::room::Room;
 
-/// A change of the line: a group comes or goes, or a slave gets other areas.
+/// A change of the line: a group is connected or disconnected, or an area of a slave gets other PDOs or another task.
 #[derive(Drop)]
 pub(crate) struct LineWork {
     pub(crate) change: Prepared,

@@ -23,11 +23,11 @@ use Rattle.hc_records.specs.Image.{datagram_count, task_places, tasks}
 abbrev pub is_declared : State → ℕ → Bool
 is_declared state alias = list_any (λ declared. declared.group.alias == alias) state.groups
 
--- that group is present
+-- a present group has the alias
 abbrev pub is_present : State → ℕ → Bool
 is_present state alias = list_any (λ declared. (declared.group.alias == alias) && declared.present) state.groups
 
--- one of these slaves has the station address, and a declared one has
+-- one of these slaves has the station address
 abbrev pub has_station : ℕ → List Slave → Bool
 has_station station slaves = list_any (has_address station) slaves
 
@@ -39,7 +39,7 @@ is_declared_station state station = list_any (λ declared. has_station station d
 abbrev pub slave_at : State → ℕ → Option Member
 slave_at state station = find (is_at station) (line state)
 
--- an area of that slave
+-- the area with a number, from 0, of the slave of the line with a station address; none if there is no such slave or area
 abbrev pub area_at : State → ℕ → ℕ → Option Area
 area_at state station area = option_and_then (λ member. slice_get member.slave.areas area) (slave_at state station)
 

@@ -19,7 +19,7 @@ task_places task line = packed empty_front (task_list task line)
 abbrev pub inside : ℕ → List Placed → List Placed
 inside datagram areas = filter (λ area. area.datagram == datagram) areas
 
--- the first bit after all of them
+-- the first bit after all areas of a datagram; 0 if there are none
 abbrev pub end_of : List Placed → ℕ
 end_of areas = fold (λ end area. max end (area.bit + area.bits)) 0 areas
 
@@ -48,7 +48,7 @@ image_length areas = datagram_offset areas (datagram_count areas)
 abbrev pub first_byte : List Placed → Placed → ℕ
 first_byte areas area = datagram_offset areas area.datagram + area.bit / 8
 
--- the bytes that hold the outputs, which come first: up to the first byte of the first input area
+-- the number of bytes that hold the outputs, which come first: those before the first byte of the first input area, or all if there is no input area
 abbrev pub output_length : List Placed → ℕ
 output_length areas = option_map_or (first_byte areas) (find (λ area. same_dir area.key.dir In) areas) (image_length areas)
 

@@ -13,7 +13,7 @@ use Rattle.hc_records.specs.Image.{datagram_count, datagram_length, datagram_off
 use Rattle.hc_records.specs.Boundaries.{begins_later, later_keys, touched, unsettled_spans, width_in}
 use Rattle.hc_records.specs.Project.{lowest_fault}
 
--- an area that takes a place and is no wider than a datagram
+-- an area of at least one bit that is no wider than a datagram
 pub record IsPackable (area : Keyed) : Type 0 where
   pub some : 0 < area.1
   pub narrow : area.1 ≤ MOST_AREA_BITS
@@ -32,7 +32,7 @@ PlacesKeepTheList = (front : Front) (list : List Keyed) → map (λ area. (area.
 abbrev pub LiesInside : Placed → Type 0
 LiesInside area = area.bit + area.bits ≤ MOST_AREA_BITS
 
--- `LiesInside` holds for each area of a list that is packed
+-- `LiesInside` holds for each area of a list of packable areas, once the list is packed
 abbrev pub AreasLieInside : Type 0
 AreasLieInside = (list : List Keyed) → All IsPackable list → All LiesInside (packed empty_front list)
 
@@ -49,7 +49,7 @@ pub record IsDatagramLength (bytes : ℕ) : Type 0 where
   pub some : 1 ≤ bytes
   pub most : bytes ≤ MOST_DATAGRAM_BYTES
 
--- `IsDatagramLength` holds for each datagram of a list that is packed
+-- `IsDatagramLength` holds for each datagram of a list of packable areas, once the list is packed
 abbrev pub DatagramsAreSendable : Type 0
 DatagramsAreSendable =
     (list : List Keyed) (datagram : ℕ) → All IsPackable list → datagram < datagram_count (packed empty_front list)
@@ -67,7 +67,7 @@ AreasShareNoBit = (list : List Keyed) → AllPairs LiesBefore (packed empty_fron
 abbrev pub Ascends : List Keyed → Type 0
 Ascends list = AllPairs (λ a b. IsTrue (is_before a.0 b.0)) list
 
--- those of a task's list do, and each lies above START
+-- the keys of the list of each task of any line ascend
 abbrev pub KeysAscend : Type 0
 KeysAscend = (state : State) (task : ℕ) → Ascends (task_list task (line state))
 
@@ -75,7 +75,7 @@ KeysAscend = (state : State) (task : ℕ) → Ascends (task_list task (line stat
 abbrev pub KeysLieAboveStart : Type 0
 KeysLieAboveStart = (state : State) (task : ℕ) → All (λ area. IsTrue (is_before START area.0)) (task_list task (line state))
 
--- in a project each also lies below END
+-- in a project, the key of each area of a task's list lies below END
 abbrev pub KeysLieBelowEnd : Type 0
 KeysLieBelowEnd =
     (state : State) (task : ℕ) → lowest_fault (groups_of state.groups) ≡ None
@@ -91,12 +91,12 @@ PackingIsLeast =
     (list : List Keyed) (parts : List (List Keyed)) → flat_map (λ part. part) parts ≡ list
     → All FitsOneDatagram parts → datagram_count (packed empty_front list) ≤ length parts
 
--- the datagram being filled once the areas of a list are
+-- the datagram being filled once the areas of a list are placed
 abbrev pub front_after : Front → List Keyed → Front
 front_after front [] = front
 front_after front (area ∷ areas) = front_after (front_with (placed_at front area)) areas
 
--- an area with so many datagrams before those of its own list
+-- an area's place with its datagram number increased by so many datagrams
 abbrev pub raised : ℕ → Placed → Placed
 raised datagrams area = record area { datagram = area.datagram + datagrams }
 

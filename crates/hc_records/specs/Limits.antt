@@ -43,7 +43,7 @@ pub record Reaches (area : Area) (byte : ℕ) : Type 0 where
   pub from : area.phys ≤ byte
   pub below : byte < area.phys + reach area
 
--- two areas may take no byte in common
+-- no byte is one that both areas may take
 abbrev pub KeepApart : Area → Area → Type 0
 KeepApart a b = (byte : ℕ) → Reaches a byte → ¬ (Reaches b byte)
 
@@ -56,7 +56,7 @@ pub record IsSlaveInside (slave : Slave) : Type 0 where
   pub managers : AllPairs (λ a b. a.sm ≢ b.sm) slave.areas
   pub apart : AllPairs KeepApart slave.areas
 
--- a group that comes and goes has an alias and a slave
+-- a group that can be connected and disconnected has an alias from 1 on, and at least one slave
 pub record ComesAndGoes (group : Group) : Type 0 where
   pub alias : 1 ≤ group.alias
   pub slaves : 1 ≤ length group.slaves

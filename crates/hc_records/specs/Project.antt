@@ -15,7 +15,7 @@ use Rattle.hc_records.specs.Area.{Entry, entry_bits, has_unknown, width}
 abbrev pub slaves_of : List Group → List Slave
 slaves_of groups = flat_map (λ group. group.slaves) groups
 
--- a slave, an area, of the project meets a test
+-- a slave of one of the groups meets the test
 abbrev pub some_slave : (Slave → Bool) → List Group → Bool
 some_slave test groups = list_any (λ group. list_any test group.slaves) groups
 
@@ -27,7 +27,7 @@ some_area test groups = some_slave (λ slave. list_any test slave.areas) groups
 abbrev pub offered_bits : List Pdo → ℕ
 offered_bits offered = sum_by (λ pdo. entry_bits pdo.entries) offered
 
--- the bytes of its slave's memory that an area may take: those of all its offered PDOs, or of the widest area
+-- the bytes of its slave's memory that an area may take: those of all its offered PDOs together, but no more than those of the widest area
 abbrev pub reach : Area → ℕ
 reach area = (min MOST_AREA_BITS (offered_bits area.offered) + 7) / 8
 
@@ -61,7 +61,7 @@ abbrev pub slave_outside : Slave → Bool
 slave_outside slave =
     (slave.station == 0) || nat_lt MOST_AREAS (length slave.areas) || list_any area_outside slave.areas
 
--- a group that cannot come and go: it has no alias, or no slave
+-- a group that cannot be connected and disconnected: its alias is 0, or it has no slave
 abbrev pub is_bare : Group → Bool
 is_bare group = (group.alias == 0) || (length group.slaves == 0)
 
@@ -105,7 +105,7 @@ overlap a b =
 abbrev pub has_overlap : Slave → Bool
 has_overlap slave = some_pair overlap slave.areas
 
--- the variables of entries, of PDOs, of areas and of slaves, in declared order
+-- the variables of entries, in order; a gap has none
 abbrev pub entry_names : List Entry → List ℕ
 entry_names entries = filter_map (λ entry. entry.0) entries
 
@@ -129,7 +129,7 @@ has_repeated_variable groups = has_repeat (slave_names (slaves_of groups))
 abbrev pub same_index : Pdo → Pdo → Bool
 same_index a b = b.index == a.index
 
--- the assigned PDOs of an area are not offered PDOs, each once, or two of the offered ones have one index
+-- an assigned PDO of an area is not offered or is assigned twice, or two offered PDOs have one index
 abbrev pub has_unknown_pdo : Area → Bool
 has_unknown_pdo area =
     has_unknown area.assigned area || has_repeat area.assigned || some_pair same_index area.offered

@@ -65,7 +65,7 @@ recut_by state edit = recut (line state) (line (state_after state edit))
 abbrev fault_of : State → Edit → Option EditFault
 fault_of state edit = lowest (edit_faults state edit)
 
--- Two slaves with three areas of 3 bits share one byte and a half; an input of 1 bit begins the next byte.
+-- The three areas of 3 bits of two slaves take 9 bits, in two bytes; an input of 1 bit begins the next byte, at bit 16.
 
 abbrev three_bits : State
 three_bits = opened (group_of 0 (

@@ -44,7 +44,7 @@ fn capped_bits(entries: &[Entry]) -> u32
     total
 }
 
-/// Returns the entries of the offered PDO with an index, or `None` if it is not offered.
+/// Returns the entries of the offered PDO with an index, or an empty slice if it is not offered.
 pub fn offered_entries(offered: &[Pdo], index: u16) -> &[Entry]
     ensures { result.now ≡ entries_at offered.now index }
 {
@@ -56,7 +56,8 @@ pub fn offered_entries(offered: &[Pdo], index: u16) -> &[Entry]
     &[]
 }
 
-/// Returns the bits of offered PDOs in the order of their indexes, or `WIDTH_CAP` if there are more.
+/// Returns the sum of the bits of the offered PDOs with these indexes, or `WIDTH_CAP` if it is more. An index that is not
+/// offered has no bits.
 fn assigned_bits(offered: &[Pdo], indexes: &[u16]) -> u32
     ensures { result ≡ min WIDTH_CAP (entry_bits (flat_map (entries_at offered.now) indexes.now)) }
 {

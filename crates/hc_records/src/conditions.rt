@@ -17,8 +17,8 @@ pub mod names;
 mod ranges;
 pub mod scan;
 
-/// Returns `Ok` if no fault's condition holds, and otherwise the lowest fault, or `Memory` if an allocation fails. The first
-/// fault needs no allocation.
+/// Returns `Ok` if no fault's condition holds. Fails with the lowest fault whose condition holds, or with `Memory` if an
+/// allocation fails. `OutOfRange`, the lowest fault, is judged before any allocation.
 pub fn judge(alloc: Global, groups: &[Group]) -> Result<(), ProjectFault>
     ensures accepted { OnOk result (lowest_fault groups.now ≡ None) }
     ensures refused { IfErr result (λ fault. fault ≢ Memory → lowest_fault groups.now ≡ Some fault) }
@@ -120,7 +120,7 @@ impl Relation<Pdo> for SameIndex {
     }
 }
 
-/// An area whose assigned PDOs are not offered PDOs, each once.
+/// An area with an assigned PDO that is not offered or is assigned twice, or with two offered PDOs of one index.
 struct UnknownAssigned;
 
 impl Condition<Area> for UnknownAssigned {

@@ -23,7 +23,7 @@ impl Key {
         area: 0,
     };
 
-    /// Above the key of every area.
+    /// Above the key of every area of a project.
     pub const END: Key = Key {
         dir: Dir::In,
         rank: u16::MAX,
@@ -37,7 +37,7 @@ impl Key {
         self < other
     }
 
-    /// Returns whether this key differs from another.
+    /// True if this key and another are the same: one direction, one rank and one area.
     pub fn is_same(self, other: Key) -> bool
         ensures { result ≡ same_key self other }
     {

@@ -46,7 +46,7 @@ type_of In = 1
 abbrev pub last_bit : ℕ → ℕ → ℕ
 last_bit bit bits = bit + bits - 1
 
--- an area with a width that ends within its datagram, which has its whole length in the logical addresses
+-- an area of at least one bit ends within the longest datagram, and all addresses of a datagram of this length have 32 bits
 pub record IsMappable (area : Area) (mapping : Mapping) : Type 0 where
   pub some : 0 < width area
   pub inside : mapping.bit + width area ≤ MOST_AREA_BITS
@@ -83,7 +83,7 @@ pub record RegisterBlock : Type 0 where
   pub register : ℕ
   pub bytes : List ℕ
 
--- the sync manager block of an area, and the FMMU block of the area at an index of its slave's record
+-- the sync manager block of an area, with its register: 0x0800 + 8 × the number of the sync manager
 abbrev pub sync_manager_block : Area → RegisterBlock
 sync_manager_block area =
     record { register = SYNC_MANAGER_BLOCKS + SYNC_MANAGER_BLOCK_BYTES * area.sm; bytes = sync_manager_bytes area }

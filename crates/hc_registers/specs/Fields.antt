@@ -2,7 +2,7 @@
 use Rattle.std.specs.Prelude.{ℕ, ◌+◌, List, slice_range}
 use Rattle.std.specs.Int.{from_le_bytes, w16, w32}
 
--- the number that is little-endian in two bytes, and in four
+-- the number in the two bytes of a block from a byte on, low byte first
 abbrev pub word_at : List ℕ → ℕ → ℕ
 word_at bytes at = from_le_bytes w16 (slice_range bytes at (at + 2))
 

@@ -1,4 +1,4 @@
--- Laws of the places of a line. Each law is the contract of a function of `laws`.
+-- Laws of the places of a line. Each law is the contract of a function of `rank_laws`.
 use Rattle.std.specs.Prelude.{◌≡◌, ℕ, ◌*◌, ◌<◌, ◌++◌, List, All, length, map, replicate, slice_get, Option, Some, None}
 use Rattle.std.specs.List.{flat_map}
 use Rattle.std.specs.Option.{option_to_list}

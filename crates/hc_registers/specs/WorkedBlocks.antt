@@ -51,7 +51,7 @@ one_slave_blocks : bytes_of one_slave ≡
     ∷ []
 one_slave_blocks = refl
 
--- Three areas of 3 bits share a byte and a half: the second ends at bit 5 of the first byte, the third spans two bytes.
+-- Three areas of 3 bits take 9 bits: the second ends at bit 5 of the first byte, the third spans two bytes.
 
 abbrev three_bits : State
 three_bits = opened (record {
@@ -96,7 +96,8 @@ same_moves = refl
 other_task_moves : moved_by one_slave (Move 1001 0 1) ≡ 2
 other_task_moves = refl
 
--- A tool of one slave and a module of seven: if a datagram's number falls, its blocks move, and no others.
+-- A tool of one slave and a module of seven: connecting the module moves both blocks of each of its slaves, and disconnecting the tool moves the
+-- FMMU block of each, and no sync manager block.
 
 abbrev with_output : ℕ → ℕ → Slave
 with_output station bytes = slave_of station (area_of 0 Out 0x1000 (8 * bytes) None ∷ [])

@@ -1,5 +1,5 @@
 //! The working counter that a datagram comes back with when every slave of the line has processed it
-//! (ETG.1000.4, 5.4: a slave that reads adds 1, one that writes 2, one that does both 3).
+//! (ETG.1000.4, 5.4: a slave whose inputs are read adds 1, one whose outputs are written 2, one with both 3).
 ghost use Rattle.std.specs.Prelude.{◌≡◌, ◌≤◌, length, sum_by};
 ghost use Rattle.std.specs.List.{list_any};
 ghost use Rattle.hc_records.specs.Image.{counter_share, area_is_of};

@@ -9,8 +9,7 @@ ghost use Rattle.hc_registers.specs.Fields.{long_at, word_at};
 use hc_records::records::{Area, Dir};
 use hc_records::task::Task;
 
-/// The logical addresses that a task has: its first is this many times one more than its number (this
-/// project's profile).
+/// The number of logical addresses of each task. Those of task n begin at n + 1 times this number (this project's profile).
 const TASK_SPAN: u32 = 0x0100_0000;
 
 /// The logical addresses from the start of a datagram to the start of the next one (this project's

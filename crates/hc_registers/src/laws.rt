@@ -19,9 +19,9 @@ pub fn blocks_are_apart()
     ensures { BlocksAreApart }
 {}
 
-/// The expected working counter of a datagram can be counted in one pass over its areas, if their keys and the ranks of their
-/// slaves ascend strictly. An area adds 2 if it has outputs and 1 if it has inputs. Exception: it adds 0 if the area before it
-/// has the same slave and direction.
+/// The expected working counter of a datagram can be counted in one pass over its areas, if their keys ascend strictly, and so
+/// do the ranks of the line's slaves, which include each area's slave. An output area adds 2 and an input area 1. Exception: an
+/// area adds 0 if the area before it has the same slave and direction.
 pub fn ascending_keys_are_counted()
     ensures { AscendingKeysAreCounted }
 {}

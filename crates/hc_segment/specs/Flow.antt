@@ -14,7 +14,7 @@ pub record Flows (count : ℕ) (line line' : List (List (List ℕ))) (from from'
   pub same_from : SameFrameReceiver from from'
   pub same_to : SameFrameSender to to'
 
--- nothing went through yet
+-- no frame was taken from the one ring or sent to the other yet
 abbrev pub Unused : FrameReceiver → FrameSender → Type 0
 Unused from to = (frames_taken from ≡ []) × (frames_sent to ≡ [])
 

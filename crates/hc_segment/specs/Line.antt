@@ -32,7 +32,7 @@ abbrev pub line_frames : List (List (List ℕ)) → List (List ℕ) → List (Li
 line_frames [] fs = fs
 line_frames (s ∷ ss) fs = line_frames ss (frames_through s fs)
 
--- the segments after them
+-- the segments after frames that go through them one after another
 abbrev pub line_after : List (List (List ℕ)) → List (List ℕ) → List (List (List ℕ))
 line_after [] fs = []
 line_after (s ∷ ss) fs = machines_after s fs ∷ line_after ss (frames_through s fs)

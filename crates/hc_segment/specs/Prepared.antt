@@ -8,7 +8,7 @@ use Rattle.hc_segment.specs.Changing.{Prepared}
 abbrev pub prepared_in : Inside → Prepared
 prepared_in e = record { count = e.count; replacement = record { position = e.position; gone = e.gone; coming = e.coming.items } }
 
--- the number of machines after it
+-- the number of machines of the line after the edit
 abbrev pub count_after : Inside → ℕ
 count_after e = e.count + vec_len e.coming - (min (e.position + e.gone) e.count - min e.position e.count)
 

@@ -19,7 +19,7 @@ alias_frames count = map alias_frame (range_with_len 0 count)
 unfoldable pub station_frame : ℕ → ℕ → List ℕ
 station_frame position station = frame_text SETUP_SERIAL (station_write (position % 65536) station ∷ [])
 
--- the frames that give the members of a line theirs, from this position on
+-- the frames that give the members of a line their station addresses, from this position on
 abbrev pub station_frames : ℕ → List Member → List (List ℕ)
 station_frames position [] = []
 station_frames position (member ∷ members) = station_frame position member.slave.station ∷ station_frames (position + 1) members
@@ -28,7 +28,7 @@ station_frames position (member ∷ members) = station_frame position member.sla
 abbrev pub data_in : List ℕ → ℕ
 data_in frame = word_at frame FIRST_DATA
 
--- the working counter after the data of such a frame
+-- the working counter of a frame of one datagram with two data bytes
 abbrev pub counter_in : List ℕ → ℕ
 counter_in frame = word_at frame (FIRST_DATA + 2)
 

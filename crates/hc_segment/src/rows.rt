@@ -105,7 +105,7 @@ impl Cut {
         })
     }
 
-    /// The segments of these machines. All segments are used, though the last may be empty.
+    /// The segments of these machines. All segments are used, though the last ones may be empty.
     pub(crate) fn segments(self, machines: Vec<SlaveMachine>) -> Vec<Segment>
         requires { length machines.items ≤ self.number * self.size }
         ensures machines { all_machines result.items ≡ machines.items }

@@ -15,7 +15,7 @@ use std::alloc::{AllocError, Global};
 use std::sync::Wait;
 use std::thread::Threads;
 
-/// The positions of a line wrap here.
+/// The number of positions that an address can name: position 65,536 is named as 0.
 const POSITIONS: usize = 65_536;
 
 /// The frame that reads the alias of the slave at a position.

@@ -109,7 +109,7 @@ group-few groups first declared at =
 pub group-low : (it : EditedLine) (first : ℕ) (declared : Declared) → IsEditedLine it → IsGroupAt it.old first declared → first + length declared.group.slaves ≤ MOST_SLAVES + 1
 group-low it first declared is at = search (rules, group-few)
 
--- the slaves before a group and after it, if all are within some ranks
+-- slaves outside the ranks within which all candidates lie add no candidate
 
 pub front-passed : (it : EditedLine) (low high first from : ℕ) → LieWithin it low high → ((i : ℕ) → i < from → low ≤ first + i → ⊥) → found_below it first ≡ found_below it (first + from)
 front-passed it low high first from within out = search (rules, passed-over)

@@ -56,7 +56,7 @@ placed-out list placed none among =
     (subst (λ (areas : List Keyed). All (λ (area : Keyed). same_dir area.0.dir In ≡ false) areas) (sym (packed-areas empty_front list)) (no-input list none)) in
     dir-out placed.key.dir (All-contains (λ (p : Placed). same_dir p.key.dir In ≡ false) places placed outputs among)
 
--- the ranks of areas up to which their datagrams are not kept, among the first datagrams of a task
+-- a datagram of a task is kept up to a key; and ranks hold those of the areas up to which the first datagrams of a task are not kept
 
 abbrev pub unchanged_in : EditedLine → ℕ → ℕ → Key → Bool
 unchanged_in it task datagram key = is_unchanged_up_to (task_list task (line_from 1 it.old)) (task_list task (line_from 1 it.new)) datagram key

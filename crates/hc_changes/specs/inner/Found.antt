@@ -54,7 +54,7 @@ areas_found edited_line station rank index [] = []
 areas_found edited_line station rank index (area ∷ areas) =
     area_found edited_line station rank index area ++ areas_found edited_line station rank (index + 1) areas
 
--- the station addresses of the declared slaves, and of the one with a rank; no slave has rank 0
+-- the station addresses of all declared slaves, present or not, by rank
 abbrev pub declared_stations : List Declared → List ℕ
 declared_stations groups = flat_map (λ declared. map (λ slave. slave.station) declared.group.slaves) groups
 

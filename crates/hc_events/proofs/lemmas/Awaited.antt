@@ -1,4 +1,4 @@
--- The sending that is awaited with a serial decides all that arrivals with this serial can be answered.
+-- The sending that is awaited with a serial decides the answer to each arrival with this serial; and what one more entry makes of what is awaited.
 use Rattle.std.proofs.Common.{◌≡◌, ℕ, Bool, true, false, cond, not, ◌&&◌, ◌||◌, ◌==◌, List, [], ◌∷◌, filter, refl, sym, ap, ◌∙◌, subst, arith, if◌then◌else◌, Option, Some, None}
 use Rattle.std.specs.Prelude.{map, option_map, option_and_then}
 use Rattle.std.specs.Option.{option_map_or}

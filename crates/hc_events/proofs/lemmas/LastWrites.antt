@@ -1,4 +1,4 @@
--- The place of a block's last write in a record, and the known blocks after an answer to a frame of tasks.
+-- The place of a block's last write in a record. An answer to a frame of tasks leaves the known bytes of each block.
 use Rattle.std.proofs.Common.{◌≡◌, ℕ, ◌==◌, true, false, cond, ◌||◌, List, [], ◌∷◌, ◌++◌, refl, sym, ap, ◌∙◌, Option, Some, None, rules}
 use Rattle.std.specs.Prelude.{option_and_then, option_map}
 use Rattle.std.specs.Option.{option_or}

@@ -1,5 +1,5 @@
--- The data that are read of a datagram have its length, and any property that its sending had in the line, since no edit came
--- between.
+-- The data that are read of a datagram have the datagram's length. A good answer is of a datagram that has in the line each property that all
+-- datagrams had when they were sent, since no edit came between.
 use Rattle.std.proofs.Common.{◌≡◌, ℕ, ◌==◌, Bool, true, false, cond, ◌&&◌, List, [], ◌∷◌, length, map, refl, sym, ap, ◌∙◌, subst, Option, Some, None}
 use Rattle.std.specs.Prelude.{All, fold, option_map, option_and_then}
 use Rattle.std.specs.Option.{option_map_or}

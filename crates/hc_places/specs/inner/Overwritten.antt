@@ -8,11 +8,11 @@ use Rattle.hc_places.specs.Table.{VariableRow}
 abbrev pub AreBelow : List VariableRow → ℕ → ℕ → Type 0
 AreBelow rows variable count = IsPartitionPoint (λ row. nat_lt row.0 variable ≡ true) (λ row. nat_lt row.0 variable ≡ false) rows count
 
--- the last of the first so many rows has a lower number
+-- the last of the first so many rows, if there is one, has a lower number than a variable
 abbrev pub EndsLower : List VariableRow → ℕ → ℕ → Type 0
 EndsLower rows variable count = (d : VariableRow) → 0 < count → (get_or rows (count - 1) d).0 < variable
 
--- the row after them, if there is one, has no lower number
+-- the row after the first so many, if there is one, has no lower number than a variable
 abbrev pub NextIsNotLower : List VariableRow → ℕ → ℕ → Type 0
 NextIsNotLower rows variable count = (d : VariableRow) → count < length rows → variable ≤ (get_or rows count d).0
 

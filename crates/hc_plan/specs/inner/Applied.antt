@@ -7,8 +7,8 @@ use Rattle.hc_groups.specs.Edits.{own_fault}
 use Rattle.hc_places.specs.Table.{Table, table_of}
 use Rattle.hc_changes.specs.EditedLine.{EditedLine, IsEditedLine}
 
--- an edit without a fault of its own, one that declares no group, makes this of a line that has a table, and none of whose tasks is over
--- its limit
+-- an edit that declares no group and has no fault of its own leads from the old groups to the new ones of an edited line; the table is the old
+-- line's, and no task of the old line is over its limit
 pub record Makes (edit : Edit) (table : Table) (edited_line : EditedLine) : Type 0 where
   pub is : IsEditedLine edited_line
   pub changes : declares edit ≡ false
@@ -19,7 +19,7 @@ pub record Makes (edit : Edit) (table : Table) (edited_line : EditedLine) : Type
 
 -- the states before an edit of a line and after it, by the epoch that the line has before it
 
--- the groups before the edit, in this epoch
+-- the state before an edit: its groups, in this epoch
 abbrev pub state_before : ℕ → EditedLine → State
 state_before epoch edited_line = record { groups = edited_line.old; epoch = epoch }
 

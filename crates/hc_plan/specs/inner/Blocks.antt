@@ -41,11 +41,11 @@ mapping_in layout rank index area = mapping_by area (placed_in layout area.task 
 abbrev pub fmmu_block_in : List (List Placed) → ℕ → ℕ × Area → RegisterBlock
 fmmu_block_in layout rank e = fmmu_block e.0 e.1 (mapping_in layout rank e.0 e.1)
 
--- the two blocks of such an area: its sync manager block, then its FMMU block
+-- the two blocks of an area of a slave with a rank, by its place in a layout: its sync manager block, then its FMMU block
 abbrev pub area_blocks_in : List (List Placed) → ℕ → ℕ × Area → List RegisterBlock
 area_blocks_in layout rank e = sync_manager_block e.1 ∷ fmmu_block_in layout rank e ∷ []
 
--- the first of them for an even number, the second for an odd one
+-- one of the two blocks of an area, by its place in a layout: the sync manager block for an even number, the FMMU block for an odd one
 abbrev pub area_block_in : List (List Placed) → ℕ → ℕ → ℕ × Area → RegisterBlock
 area_block_in layout rank number e = if number % 2 == 0 then sync_manager_block e.1 else fmmu_block_in layout rank e
 
@@ -59,7 +59,7 @@ pub record IsLayoutOf (groups : List Declared) (layout : List (List Placed)) : T
   pub uncrowded : over_limit_task (line_from 1 groups) ≡ None
   pub of_line : layout ≡ layout_of (line_from 1 groups)
 
--- a slave of the line that a layout is of
+-- a slave of at most 8 areas, whose blocks can be written with the places that a layout has for the areas
 pub record IsMappedSlave (layout : List (List Placed)) (member : Member) : Type 0 where
   pub few : length member.slave.areas ≤ MOST_AREAS
   pub areas : (index : ℕ) (area : Area) → slice_get member.slave.areas index ≡ Some area

@@ -29,7 +29,7 @@ use Rattle.hc_plan.specs.declared.report.Report.{Report}
 use Rattle.hc_plan.specs.RegisterBlocks.{blocks_by_rank}
 use Rattle.hc_plan.specs.Reports.{ReportsEdit}
 
--- the variable that an entry names, if it names one, is declared already
+-- an entry names a variable that is declared already
 abbrev pub names_taken : List Declared → Entry → Bool
 names_taken groups entry = option_map_or (is_declared_variable groups) entry.0 false
 
@@ -54,7 +54,8 @@ abbrev pub limit_faults : ℕ → ℕ → Group → List (Bool × EditFault)
 limit_faults groups slaves group =
     (nat_lt MOST_GROUPS (groups + 1), TooManyGroups) ∷ (nat_lt MOST_SLAVES (slaves + length group.slaves), TooManySlaves) ∷ []
 
--- trees for so many slaves, of whom tasks have the first ones: their own, which have room, or wider ones
+-- trees for a line's tasks with room for so many slaves: the tasks' own if these have room, otherwise wider ones, in which the added slaves are
+-- absent
 abbrev pub AreTrees : List TaskCuts → ℕ → Option (List TaskCuts) → Type 0
 AreTrees tasks slaves None = (line : List (List Area)) → tasks ≡ line_cuts line → HasRoom (length line) slaves
 AreTrees tasks slaves (Some wider) =
@@ -70,12 +71,12 @@ pub record CanDeclare (groups : List Declared) (declaration : Declaration) : Typ
   pub blocks : length (blocks_by_rank groups) + 16 * length declaration.group.slaves ≤ declaration.blocks
   pub trees : AreTrees (line_cuts (areas_by_rank groups)) declaration.slaves declaration.wider
 
--- two lines are configured alike: nothing differs between them, and no block moves
+-- two lines are configured alike: their tables and their register blocks are equal, and no span is recut
 pub record AreAlike (old new : List Member) : Type 0 where
   pub table : table_of new ≡ table_of old
   pub recut : recut old new ≡ 0
   pub blocks : line_blocks new ≡ line_blocks old
 
--- a report of an edit that leaves the line configured as it was: it says of any state after it whose line is
+-- a report of an edit that leaves the line configured as it was: it reports the edit to any state of the next epoch whose line is configured alike
 abbrev pub ShowsNothing : State → Edit → Report → Type 0
 ShowsNothing old edit report = (new : State) → AreAlike (line old) (line new) → new.epoch ≡ old.epoch + 1 → ReportsEdit old edit new report

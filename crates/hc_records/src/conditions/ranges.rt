@@ -69,7 +69,7 @@ impl Condition<Slave> for OutsideSlave {
     }
 }
 
-/// A group without an alias or without a slave.
+/// A group with alias 0 or without a slave.
 struct Bare;
 
 impl Condition<Group> for Bare {
@@ -82,8 +82,8 @@ impl Condition<Group> for Bare {
     }
 }
 
-/// Returns whether the first group is not the mandatory one, with alias 0, or a later group lacks an alias or a slave. It is
-/// true for no groups.
+/// True if the first group is not the mandatory one, with alias 0, or a later group has alias 0 or no slave. It is true if there
+/// is no group.
 fn are_misplaced(groups: &[Group]) -> bool
     ensures { result ≡ is_misplaced groups.now }
 {
@@ -108,8 +108,8 @@ fn has_many_slaves(groups: &[Group]) -> bool
     false
 }
 
-/// Returns whether a number, a list's length or the memory that an area may take is outside its range, or the groups do not
-/// begin with the mandatory one alone.
+/// True if a number, a list's length or the memory that an area may take is outside its range, if the first group is not the
+/// mandatory one, with alias 0, or if a later group has alias 0 or no slave.
 pub fn is_outside(groups: &[Group]) -> bool
     ensures { result ≡ has_outside groups.now }
 {

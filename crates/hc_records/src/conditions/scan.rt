@@ -8,7 +8,7 @@ use crate::records::{Area, Group, Slave};
 
 /// A condition on a record.
 pub trait Condition<T> {
-    /// The tested record.
+    /// The condition as contracts see it: a test of a record.
     ghost condition: { T → Bool };
 
     /// True if an item meets the condition.
@@ -18,7 +18,7 @@ pub trait Condition<T> {
 
 /// A relation of an earlier record to a later one.
 pub trait Relation<T> {
-    /// The tested record.
+    /// The relation as contracts see it: a test of an earlier record and a later one.
     ghost relation: { T → T → Bool };
 
     /// True if an earlier item is related to a later one.

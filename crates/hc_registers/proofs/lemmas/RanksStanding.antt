@@ -15,7 +15,7 @@ use Rattle.hc_registers.specs.Blocks.{LineBlock, member_blocks}
 use Rattle.hc_registers.specs.RankLaws.{MembersHavePlaces}
 use Rattle.hc_registers.specs.RankPlaces.{numbers, places, places_from, slave_places}
 
--- the number of places
+-- each slave has sixteen places
 
 pub length-slave : (line : List Member) (present : Bool) (member : Member) → length (slave_places line present member) ≡ 16
 unfolding numbers
