@@ -283,6 +283,7 @@ sweep_check() {
 cases() {
     cat <<'END'
 sweep_test worked_lines pieces::project_texts::projects::project_or_memory
+sweep_test worked_lines pieces::project_texts::groups::group_or_memory
 sweep_test worked_lines lines::edits_say_what_they_change
 sweep_test worked_lines lines::a_list_of_edits_is_answered_in_its_order
 sweep_test worked_lines found::a_group_is_found_by_its_alias
