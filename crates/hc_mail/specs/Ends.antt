@@ -6,7 +6,7 @@ use Rattle.hc_mail.specs.declared.letter.Letter.{Letter}
 use Rattle.hc_mail.specs.declared.table.Insight.{Insight}
 use Rattle.hc_mail.specs.declared.table.Role.{Role}
 use Rattle.hc_mail.specs.declared.table.Role.TheVariants.{Sends, Looks}
-use Rattle.hc_mail.specs.Contents.{Kind, Room, counted, newest_letter}
+use Rattle.hc_mail.specs.Contents.{Kind, Room, counted}
 use Rattle.hc_mail.specs.Rule.{IsRoomy, IsSized, in_hand, insight}
 use Rattle.std.specs.Prelude.{length}
 
@@ -41,14 +41,13 @@ module _ {X : Type 0} (kind : Kind X) where
     pub counts : count ≡ counted (length (seen place))
     pub sends : place ≡ posed place (Sends slot) slot
 
-  -- the end is at this table, with its own slot in hand; its letter has this capacity, and is the newest of those that it saw
-  pub record IsReceiver (place : Place X) (slot : ℕ) (shown : Letter X) (table : TableId) (room : Room) : Type 0 where
+  -- the end is at this table, with its own slot in hand; its number counts the contents that it saw
+  pub record IsReceiver (place : Place X) (slot number : ℕ) (table : TableId) : Type 0 where
     pub seated : place.table_id ≡ table
     pub sized : IsSized table
-    pub roomy : IsRoomy kind room shown.content
     pub small : slot < 4
+    pub counts : number ≡ counted (length (seen place))
     pub looks : place ≡ posed place (Looks slot) slot
-    pub shows : shown ≡ newest_letter kind room (seen place)
 
 -- the place without the slot in hand
 abbrev pub with_nothing : {X : Type 0} → Place X → Place X

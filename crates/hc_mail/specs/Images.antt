@@ -1,6 +1,9 @@
 -- The images of a task, as contents of a mailbox.
 use Rattle.std.specs.Prelude.{ℕ, false, List, [], ◌∷◌, ◌++◌, Option, None, Some, replicate}
+use Rattle.std.specs.Global.{Global}
+use Rattle.std.specs.declared.vec.Vec.{Vec}
 use Rattle.hc_mail.specs.Contents.{Kind, Room}
+use Rattle.hc_mail.specs.Ends.{Place}
 use Rattle.hc_mail.specs.declared.image.ImageHead.{ImageHead}
 use Rattle.hc_mail.specs.declared.image.LineState.TheVariants as line
 
@@ -40,3 +43,15 @@ with_zeros size image = record image { bytes = image.bytes ++ replicate size 0; 
 -- an image with more outputs
 abbrev pub with_outputs : List ℕ → Image → Image
 with_outputs outputs image = record image { outputs = image.outputs ++ outputs }
+
+-- an image, and the memory that begins with its data
+pub record LentImage : Type 0 where
+  pub image : Image
+  pub memory : Vec ℕ Global
+
+-- the receiver of images: its place at the table, without the slot in hand, the mailbox's capacity, and the memory that begins
+-- with the data of the newest image
+pub record ImageEnd : Type 0 where
+  pub place : Place Image
+  pub room : Room
+  pub memory : Vec ℕ Global

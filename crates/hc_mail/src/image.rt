@@ -54,15 +54,15 @@ impl ImageHead {
 /// task's outputs. Its memory suffices from the start for the most that it may hold.
 #[derive(Drop)]
 pub struct TaskImage {
-    head: ImageHead,
+    pub(crate) head: ImageHead,
     // the bytes and the outputs, each at the front of memory for the most of them
-    memory: Vec<u8>,
-    size: usize,
-    output_memory: Vec<u8>,
-    output_size: usize,
-    serials: Vec<Option<u64>>,
+    pub(crate) memory: Vec<u8>,
+    pub(crate) size: usize,
+    pub(crate) output_memory: Vec<u8>,
+    pub(crate) output_size: usize,
+    pub(crate) serials: Vec<Option<u64>>,
     // the capacity in datagrams
-    most_datagrams: usize,
+    pub(crate) most_datagrams: usize,
 }
 
 impl Model for TaskImage {

@@ -8,7 +8,9 @@
 
 pub mod boxes;
 pub mod content;
+pub mod holder;
 pub mod image;
+pub mod image_receiver;
 pub mod images;
 pub mod letter;
 pub mod note;
@@ -19,6 +21,8 @@ pub mod receiver;
 pub mod sender;
 pub mod steps;
 pub mod table;
+pub mod taker;
+pub mod viewed;
 
 pub use receiver::Receiver;
 pub use sender::Sender;

@@ -11,6 +11,7 @@ use crate::receiver::Receiver;
 use crate::sender::Sender;
 use crate::steps::{Enter, Part, Wait};
 use crate::table::{MailTable, Place};
+use crate::taker::Taker;
 use atomic_table::Table;
 use std::alloc::{AllocError, Global};
 use std::sync::Arc;
@@ -61,7 +62,7 @@ pub fn open<T: Content>(
 {
     let (mail, mut seat) = lay(alloc, bytes, datagrams)?;
     let own = blank_letter(alloc, bytes, datagrams)?;
-    let shown = blank_letter(alloc, bytes, datagrams)?;
+    let shown = blank_box(alloc, bytes, datagrams)?;
     let other = Arc::try_clone(&mail)?;
     let shared = &mail.shared;
     let mut second = shared.split_seat::<Part>(&mut seat);
@@ -74,11 +75,12 @@ pub fn open<T: Content>(
         slot: 0,
         count: 0,
     };
-    let receiver = Receiver {
+    let taker = Taker {
         mail: other,
         seat: second,
         slot: 2,
-        shown,
+        number: 0,
     };
+    let receiver = Receiver { taker, shown };
     Ok((sender, receiver))
 }

@@ -2,7 +2,7 @@ use Rattle.std.proofs.Common.{rules, ◌≡◌, length, ◌∷◌, arith, ap, sy
 use Rattle.std.specs.Arc.{arc_value}
 use Rattle.atomic_table.specs.Table.{rest}
 use Rattle.hc_mail.specs.declared.letter.Letter.{Letter}
-use Rattle.hc_mail.specs.Contents.{Room, counted, newest_letter}
+use Rattle.hc_mail.specs.Contents.{Room, counted, newest}
 use Rattle.hc_mail.proofs.Seats.{parts}
 use Rattle.hc_mail.proofs.Moves.{enters, waits, is_posed}
 use Rattle.hc_mail.proofs.opening.open.Goals as goal
@@ -30,14 +30,18 @@ invariant_of-sender g c = let now = c.load.ensures.2.1 in let kind = g.T.Content
   sends = is_posed kind _ _ _ _ (ap (λ m. m.0.role) now) (ap (λ m. (0, c.in_ok-own.own) ∷ rest m.1) now);
 }
 
+pub invariant_of-taker : goal.invariant_of-taker
+invariant_of-taker g c = let now = c.load-2.ensures.2.1 in let kind = g.T.Content.kind in
+    let none = ap (λ m. m.0.seen) now ∙ (ap (λ m. m.0.seen) c.split_seat-second.ensures.4 ∙ ap (λ m. m.0.seen) c.in_ok-mail.ensures.me) in record {
+      seated = search rules;
+      sized = search rules;
+      small = omega arith;
+      counts = sym (ap (λ seen. counted (length seen)) none);
+      looks = is_posed kind _ _ _ _ (ap (λ m. m.0.role) now) (ap (λ m. m.1) now);
+    }
+
 pub invariant_of-receiver : goal.invariant_of-receiver
 invariant_of-receiver g c = let now = c.load-2.ensures.2.1 in let kind = g.T.Content.kind in
     let none = ap (λ m. m.0.seen) now ∙ (ap (λ m. m.0.seen) c.split_seat-second.ensures.4 ∙ ap (λ m. m.0.seen) c.in_ok-mail.ensures.me) in
-    let key : (arc_value c.in_ok-other.other).shared.key ≡ (c.args.bytes, c.args.datagrams) = search rules in record {
-      seated = search rules;
-      sized = search rules;
-      roomy = ap (λ (letter : Letter g.row.T.Denot). kind.room letter.content) c.in_ok-shown.ensures ∙ ap (λ (room : Room). kind.room (kind.blank room)) (sym key);
-      small = omega arith;
-      looks = is_posed kind _ _ _ _ (ap (λ m. m.0.role) now) (ap (λ m. m.1) now);
-      shows = c.in_ok-shown.ensures ∙ (λ t. newest_letter kind (sym key t) (sym none t));
-    }
+    let key : (arc_value c.in_ok-other.other).shared.key ≡ (c.args.bytes, c.args.datagrams) = search rules in
+    (c.in_ok-shown.ensures ∙ (λ t. newest kind (sym key t) (sym none t)), ap kind.room c.in_ok-shown.ensures ∙ ap (λ (room : Room). kind.room (kind.blank room)) (sym key))
