@@ -34,7 +34,8 @@
  *   zangjulf_seat_view                        ROOM: the seat has the newer image, and nothing is written
  *
  * SLICES. A pointer and a length are a slice. A call reads or writes within it and nowhere else. A slice of length 0 may be NULL
- * (tested, not proved); no other pointer may. No pointer is kept after the call. Reserved fields are written as zeros.
+ * (tested, not proved); no other pointer may. No pointer is kept after the call. Reserved fields are written as zeros. One call gives
+ * a pointer into memory of the library: `zangjulf_seat_view_in_place`.
  *
  * MEMORY comes from malloc and realloc, and goes back by free. Only `zangjulf_open`, `zangjulf_seat_open`, `zangjulf_look_open`,
  * `zangjulf_locate`, `zangjulf_further_writes` and the five edits allocate. With too little memory they can return ZANGJULF_MEMORY in
@@ -52,6 +53,7 @@
  *   - a copy of a handle, used after the other one was closed; a handle that is written by hand;
  *   - a call that begins while `zangjulf_open` or `zangjulf_close` of the same handle runs, in another thread;
  *   - two calls at once with one seat;
+ *   - an image of `zangjulf_seat_view_in_place` that is read after the next view or the close of the seat, or that is written to;
  *   - a slice that is not memory of yours, or NULL with a length; slices, structs and handles of one call that overlap;
  *   - a NULL pointer to a handle, a struct or a number.
  */
@@ -660,6 +662,12 @@ struct zangjulf_view {
  * `zangjulf_read` writes them. Answers: DONE; ROOM, if `out` is shorter than the image: the seat has it all the same. */
 ZANGJULF_CHECKED uint8_t zangjulf_seat_view(struct zangjulf_seat *seat, uint8_t *out, size_t length, uint64_t *serials,
                                             size_t room, struct zangjulf_view *view);
+
+/* Views the newest image as `zangjulf_seat_view` does, and copies none of its data: `*image` is their address, and `view->size`, at most
+ * 23,776, the number of their bytes. They stay there unchanged until the next view of the seat, by this call or by `zangjulf_seat_view`,
+ * or until the seat is closed. No other call changes them, and no call with the line. Read them only. Answer: DONE. */
+ZANGJULF_CHECKED uint8_t zangjulf_seat_view_in_place(struct zangjulf_seat *seat, const uint8_t **image, uint64_t *serials, size_t room,
+                                                     struct zangjulf_view *view);
 
 /* The outputs to begin a post with, `view->outputs` bytes at the front of `out`: those of the seat's own last post if they fit the
  * viewed image (made for an epoch from its task epoch on, with as many bytes), else the outputs of the viewed image. So a task that

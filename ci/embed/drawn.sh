@@ -91,7 +91,8 @@ compare_drawn() {
     done
     # what the program has no command for is found by the model alone
     for name in next_writes next_writes=2 next_writes=3 further_writes further_writes=2 arrive=3 places connect=2 open put_value put_value=2 send=2 send=3 send=4 seat_open look_open \
-        look_open=2 seat_close show show=2 seat_view seat_view=2 seat_view=3 seat_view=4 seat_view=5 seat_view=6 seat_view=7 seat_view=8 seat_outputs \
+        look_open=2 seat_close show show=2 seat_view seat_view=2 seat_view=3 seat_view=4 seat_view=5 seat_view=6 seat_view=7 seat_view=8 seat_view_in_place \
+        seat_view_in_place=2 seat_view_in_place=3 seat_view_in_place=4 seat_outputs \
         seat_post seat_post=2 seat_post=3 seat_post=4 seat_post=5 take_posts take_posts=2 ready held_by cleared unplugged; do
         compiled_fuzz ci/embed/wrong.c -DWRONG_$name -Wl,--wrap=zangjulf_${name%=*}
         report $? "the wrong $name isn't built"

@@ -90,11 +90,13 @@ static void exchange(void) {
     EXPECT(zangjulf_arrive(&line, frame, sent.size, &outcome, 1, &arrival) == ZANGJULF_DONE && outcome.kind == ZANGJULF_INPUTS);
 }
 
-/* The seat's newest image, and the number of the outputs to begin with. */
+/* The seat's newest image, every second one in place, and the number of the outputs to begin with. */
 static uint64_t view(struct zangjulf_seat *seat, struct count *count, bool has_inputs, struct zangjulf_view *view) {
-    uint8_t image[2 * BYTES], outputs[BYTES];
+    uint8_t copy[2 * BYTES], outputs[BYTES];
+    const uint8_t *image = copy;
     uint64_t serial = 0;
-    EXPECT(zangjulf_seat_view(seat, image, sizeof image, &serial, 1, view) == ZANGJULF_DONE && view->size == sizeof image && view->outputs == BYTES);
+    unsigned answer = count->views % 2 ? zangjulf_seat_view_in_place(seat, &image, &serial, 1, view) : zangjulf_seat_view(seat, copy, sizeof copy, &serial, 1, view);
+    EXPECT(answer == ZANGJULF_DONE && view->size == sizeof copy && view->outputs == BYTES);
     EXPECT(zangjulf_seat_outputs(seat, outputs, sizeof outputs) == ZANGJULF_DONE);
     uint64_t number = number_of(outputs);
     EXPECT(view->has == has_inputs && view->state == (has_inputs ? ZANGJULF_COMPLETE : ZANGJULF_NO_DATA));

@@ -31,10 +31,11 @@ struct mailbox {
     uint64_t showings, posts, taken;
 };
 
-/* A seat and its mailbox, or none. */
+/* A seat and its mailbox, or none; and the image that it lent, or NULL, until its next view. */
 struct drawn_seat {
     struct zangjulf_seat seat;
     struct mailbox *box;
+    const uint8_t *lent;
 };
 
 static struct mailbox boxes[MAILBOXES];
@@ -94,7 +95,7 @@ static void closing(struct drawn_seat *seat) {
     unsigned number = zangjulf_seat_close(&seat->seat);
     if (number != (seat->box ? ZANGJULF_DONE : ZANGJULF_CLOSED) || seat->seat.mark) fail("a closed seat", number);
     if (seat->box) seat->box->has_seat = false;
-    seat->box = NULL;
+    seat->box = NULL, seat->lent = NULL;
 }
 
 void close_seats(void) {
@@ -128,27 +129,55 @@ static void showing(struct zangjulf *line, const struct owner *owner, const stru
         if (owner->looking[i]) show_to(line, epochs, owner->looking[i], ZANGJULF_LINE_OPEN);
 }
 
-static void viewing(struct drawn_seat *seat) {
-    size_t room = some_length(ZANGJULF_IMAGE), many = below(ZANGJULF_DATAGRAMS + 1);
-    struct zangjulf_view view, as_before;
-    uint64_t serials[ZANGJULF_DATAGRAMS];
-    uint8_t *out = out_room(room);
-    memset(&view, 0x77, sizeof view), memset(&as_before, 0x77, sizeof as_before), memset(serials, 0x77, sizeof serials);
-    unsigned number = zangjulf_seat_view(&seat->seat, out, room, serials, many, &view);
-    expect(number, seat->box, "\0\x1d");
-    if (seat->box) seat->box->viewed = seat->box->last_shown;
-    const struct shown *shown = seat->box ? &seat->box->viewed : NULL;
-    if (number && memcmp(&view, &as_before, sizeof view)) fail("a refused view", number);
-    if (number) expect_untouched(out, room, number);
-    if (shown && (number == ZANGJULF_ROOM) != (room < shown->view.size)) fail("a view's room", number);
+/* The view and the serials of a drawn view that was answered with a number. */
+static void expect_viewed(const struct shown *shown, unsigned number, const struct zangjulf_view *view, const uint64_t *serials, size_t many) {
+    struct zangjulf_view as_before;
+    memset(&as_before, 0x77, sizeof as_before);
+    if (number && memcmp(view, &as_before, sizeof *view)) fail("a refused view", number);
     for (size_t i = 0; i < ZANGJULF_DATAGRAMS; i++) {
         bool is_written = !number && i < many && i < shown->view.datagrams;
         if (serials[i] != (is_written ? shown->serials[i] : 0x7777777777777777)) fail("another age than the model's", number);
     }
+    if (!number && memcmp(view, &shown->view, sizeof *view)) fail("another view than the model's", number);
+}
+
+static void viewing(struct drawn_seat *seat) {
+    size_t room = some_length(ZANGJULF_IMAGE), many = below(ZANGJULF_DATAGRAMS + 1);
+    struct zangjulf_view view;
+    uint64_t serials[ZANGJULF_DATAGRAMS];
+    uint8_t *out = out_room(room);
+    memset(&view, 0x77, sizeof view), memset(serials, 0x77, sizeof serials);
+    unsigned number = zangjulf_seat_view(&seat->seat, out, room, serials, many, &view);
+    expect(number, seat->box, "\0\x1d");
+    if (seat->box) seat->box->viewed = seat->box->last_shown;
+    seat->lent = NULL;
+    const struct shown *shown = seat->box ? &seat->box->viewed : NULL;
+    if (number) expect_untouched(out, room, number);
+    if (shown && (number == ZANGJULF_ROOM) != (room < shown->view.size)) fail("a view's room", number);
+    expect_viewed(shown, number, &view, serials, many);
     if (number) return;
-    if (memcmp(&view, &shown->view, sizeof view)) fail("another view than the model's", number);
     if (memcmp(out, shown->bytes, view.size)) fail("another image than the model's", number);
     expect_untouched(out + view.size, room - view.size, number);
+}
+
+/* The image that a seat lent is as it was, until the next view. */
+static void expect_lent(const struct drawn_seat *seat) {
+    if (seat->lent && memcmp(seat->lent, seat->box->viewed.bytes, seat->box->viewed.view.size)) fail("a lent image that changed", 0);
+}
+
+static void viewing_in_place(struct drawn_seat *seat) {
+    size_t many = below(ZANGJULF_DATAGRAMS + 1);
+    struct zangjulf_view view;
+    uint64_t serials[ZANGJULF_DATAGRAMS];
+    const uint8_t nothing = 0, *image = &nothing;
+    memset(&view, 0x77, sizeof view), memset(serials, 0x77, sizeof serials);
+    unsigned number = zangjulf_seat_view_in_place(&seat->seat, &image, serials, many, &view);
+    expect(number, seat->box, "\0");
+    if (seat->box) seat->box->viewed = seat->box->last_shown;
+    expect_viewed(seat->box ? &seat->box->viewed : NULL, number, &view, serials, many);
+    if (!number != (image != &nothing)) fail("an image in place, or none", number);
+    if (!number && memcmp(image, seat->box->viewed.bytes, view.size)) fail("another image in place than the model's", number);
+    seat->lent = number ? NULL : image;
 }
 
 /* The outputs that a seat begins with: its own last post, if it was made in the task epoch of its image and is as long. */
@@ -243,6 +272,7 @@ static void taking(struct zangjulf *line, struct owner *owner, const struct task
 
 void draw_seat_call(struct zangjulf *line, struct owner *owner, const struct task_epochs *epochs, bool of_zeros) {
     struct drawn_seat *seat = &seats[below(SEATS)];
+    for (int i = 0; i < SEATS; i++) expect_lent(&seats[i]);
     switch (below(16)) {
     case 0:
         call = "seat_close";
@@ -254,7 +284,8 @@ void draw_seat_call(struct zangjulf *line, struct owner *owner, const struct tas
         if (!below(8)) closing(seat);
         break;
     case 2: case 3: case 4: call = "show"; showing(line, owner, epochs); break;
-    case 5: case 6: case 7: case 8: call = "seat_view"; viewing(seat); break;
+    case 5: case 6: call = "seat_view"; viewing(seat); break;
+    case 7: case 8: call = "seat_view_in_place"; viewing_in_place(seat); break;
     case 9: case 10: call = "seat_outputs"; outputting(seat); break;
     case 11: case 12: case 13: call = "seat_post"; posting(seat, of_zeros); break;
     default: call = "take_posts"; taking(line, owner, epochs);

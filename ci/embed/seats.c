@@ -113,12 +113,14 @@ static void closed(void) {
     struct zangjulf_seat seat = {0};
     struct zangjulf_view view = {.showing = 7, .size = 7, .has = 7};
     struct zangjulf_taken taken = {7, 7, {7}};
+    const uint8_t *image = &text[1];
     uint64_t serial = 7;
     uint8_t byte = 7;
     EXPECT(zangjulf_seat_open(&line, 8, &seat) == ZANGJULF_CLOSED && zangjulf_look_open(&line, 9, 8, &seat) == ZANGJULF_CLOSED && !seat.mark);
     EXPECT(zangjulf_show(&line) == ZANGJULF_CLOSED);
     EXPECT(zangjulf_take_posts(&line, &taken) == ZANGJULF_CLOSED && taken.accepted == 7 && taken.refused == 7);
     EXPECT(zangjulf_seat_view(&seat, &byte, 1, &serial, 1, &view) == ZANGJULF_CLOSED && byte == 7 && serial == 7);
+    EXPECT(zangjulf_seat_view_in_place(&seat, &image, &serial, 1, &view) == ZANGJULF_CLOSED && image == &text[1] && serial == 7);
     EXPECT(view.showing == 7 && view.size == 7 && view.has == 7);
     EXPECT(zangjulf_seat_outputs(&seat, &byte, 1) == ZANGJULF_CLOSED && byte == 7);
     EXPECT(refused_post(&seat, 0, &byte, 1) == ZANGJULF_CLOSED && refused_post(&seat, 0, NULL, 0) == ZANGJULF_CLOSED);
@@ -130,10 +132,12 @@ static void strange(void) {
     struct zangjulf line = {0};
     struct zangjulf_seat seat = {.mark = 0x5555555555555555}, before;
     struct zangjulf_view view;
+    const uint8_t *image = &text[1];
     uint8_t byte = 7;
     open_line(&line);
     EXPECT(zangjulf_seat_open(&line, 0, &seat) == ZANGJULF_MISUSED && zangjulf_look_open(&line, 0, 0, &seat) == ZANGJULF_MISUSED);
     EXPECT(zangjulf_seat_view(&seat, NULL, 0, NULL, 0, &view) == ZANGJULF_MISUSED && zangjulf_seat_outputs(&seat, &byte, 1) == ZANGJULF_MISUSED);
+    EXPECT(zangjulf_seat_view_in_place(&seat, &image, NULL, 0, &view) == ZANGJULF_MISUSED && image == &text[1]);
     EXPECT(refused_post(&seat, 0, &byte, 1) == ZANGJULF_MISUSED && zangjulf_seat_close(&seat) == ZANGJULF_MISUSED && seat.mark == 0x5555555555555555);
     seat.mark = 0;
     EXPECT(zangjulf_seat_open(&line, 0, &seat) == ZANGJULF_DONE && seat.mark);
@@ -205,6 +209,31 @@ static void images(struct zangjulf *line, struct zangjulf_seat *seat) {
     memset(outputs, 0xaa, OUTPUTS);
     EXPECT(zangjulf_seat_outputs(seat, outputs, OUTPUTS - 1) == ZANGJULF_ROOM && is_untouched(outputs, OUTPUTS));
     free(data), free(whole), free(outputs);
+}
+
+/* An image that is lent in place equals its copy, and stays as it is while more are shown, posted and taken, until the next view. */
+static void in_place(struct zangjulf *line, struct zangjulf_seat *seat) {
+    uint8_t *data = slice(IMAGE), *outputs = slice(OUTPUTS);
+    const uint8_t *lent = NULL, *next = NULL;
+    struct zangjulf_view view, copied;
+    uint64_t serials[2] = {7, 7}, serial = 7;
+    memories[1][0x1180] = 0x30;
+    uint64_t first = exchange(line, 0);
+    EXPECT(zangjulf_show(line) == ZANGJULF_DONE);
+    EXPECT(zangjulf_seat_view_in_place(seat, &lent, serials, 2, &view) == ZANGJULF_DONE && view.size == IMAGE && view.has == 1 && lent[OUTPUTS] == 0x30);
+    EXPECT(serials[0] == first && serials[1] == 7 && view.first_serial == first && view.state == ZANGJULF_COMPLETE && !view.reserved);
+    EXPECT(zangjulf_seat_view(seat, data, IMAGE, &serial, 1, &copied) == ZANGJULF_DONE && serial == first && !memcmp(&copied, &view, sizeof view));
+    /* none was newer, so that the image is lent again where it was */
+    EXPECT(zangjulf_seat_view_in_place(seat, &next, NULL, 0, &copied) == ZANGJULF_DONE && next == lent && !memcmp(&copied, &view, sizeof view));
+    for (int i = 0; i < 5; i++) {
+        memories[1][0x1180] = (uint8_t)(0x40 + i);
+        exchange(line, 0);
+        EXPECT(zangjulf_show(line) == ZANGJULF_DONE && zangjulf_seat_outputs(seat, outputs, OUTPUTS) == ZANGJULF_DONE && !memcmp(lent, data, IMAGE));
+        EXPECT(refused_post(seat, 9, outputs, OUTPUTS) == ZANGJULF_STALE_POST && !memcmp(lent, data, IMAGE));
+    }
+    EXPECT(zangjulf_seat_view_in_place(seat, &next, &serial, 0, &copied) == ZANGJULF_DONE && next != lent && next[OUTPUTS] == 0x44 && serial == first);
+    EXPECT(copied.showing == view.showing + 5 && copied.size == IMAGE);
+    free(data), free(outputs);
 }
 
 /* A frame that is lost leaves the task's data, and the image says that they are not of the last sending. */
@@ -373,6 +402,7 @@ static void of_a_line(void) {
     write_all(&line);
     EXPECT(zangjulf_seat_open(&line, 0, &seat) == ZANGJULF_DONE && zangjulf_seat_open(&line, 1, &second) == ZANGJULF_DONE);
     images(&line, &seat);
+    in_place(&line, &seat);
     states(&line, &seat);
     posts(&line, &seat, &second);
     edit_of_the_other(&line, &seat, &second);

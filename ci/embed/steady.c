@@ -112,6 +112,9 @@ static void look_once(struct zangjulf_seat *look) {
     uint8_t image[ZANGJULF_IMAGE];
     expect(zangjulf_seat_view(look, image, sizeof image, serials, ZANGJULF_DATAGRAMS, &view), ZANGJULF_DONE, "seat_view");
     expect(view.has == 1 && view.line == ZANGJULF_LINE_OPEN, 1, "a look");
+    const uint8_t *lent;
+    expect(zangjulf_seat_view_in_place(look, &lent, serials, ZANGJULF_DATAGRAMS, &view), ZANGJULF_DONE, "seat_view_in_place");
+    expect(!memcmp(lent, image, view.size), 1, "a look in place");
 }
 
 /* The slave of task 0 is cleared: its task waits, and another one is sent. Then its blocks are written. */

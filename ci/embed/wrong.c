@@ -337,6 +337,34 @@ uint8_t __wrap_zangjulf_seat_view(struct zangjulf_seat *seat, uint8_t *out, size
 }
 #endif
 
+/* an image of another address; one that stays at the address of the first; an age of another sending; a newer image that is not taken */
+#ifdef WRONG_seat_view_in_place
+uint8_t __real_zangjulf_seat_view_in_place(struct zangjulf_seat *seat, const uint8_t **image, uint64_t *serials, size_t room, struct zangjulf_view *view);
+uint8_t __wrap_zangjulf_seat_view_in_place(struct zangjulf_seat *seat, const uint8_t **image, uint64_t *serials, size_t room, struct zangjulf_view *view) {
+#if WRONG_seat_view_in_place == 4
+    static struct zangjulf_seat before;
+    static const uint8_t *at;
+    static struct zangjulf_view kept;
+    if (seat->mark && before.at == seat->at && !room) return *image = at, *view = kept, ZANGJULF_DONE;
+#endif
+    unsigned number = __real_zangjulf_seat_view_in_place(seat, image, serials, room, view);
+    if (number) return (uint8_t)number;
+#if WRONG_seat_view_in_place == 2
+    static const void *at;
+    static const uint8_t *first;
+    if (seat->at != at) first = *image;
+    at = seat->at, *image = first;
+#elif WRONG_seat_view_in_place == 3
+    if (room) serials[0] += view->has & 1;
+#elif WRONG_seat_view_in_place == 4
+    before = *seat, at = *image, kept = *view;
+#else
+    *image += view->size > 1;
+#endif
+    return (uint8_t)number;
+}
+#endif
+
 #ifdef WRONG_seat_outputs /* a byte of other outputs */
 uint8_t __real_zangjulf_seat_outputs(const struct zangjulf_seat *seat, uint8_t *out, size_t length);
 uint8_t __wrap_zangjulf_seat_outputs(const struct zangjulf_seat *seat, uint8_t *out, size_t length) {

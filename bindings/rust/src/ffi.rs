@@ -265,6 +265,13 @@ extern "C" {
         room: usize,
         view: *mut View,
     ) -> u8;
+    pub fn zangjulf_seat_view_in_place(
+        seat: *mut SeatHandle,
+        image: *mut *const u8,
+        serials: *mut u64,
+        room: usize,
+        view: *mut View,
+    ) -> u8;
     pub fn zangjulf_seat_outputs(seat: *const SeatHandle, out: *mut u8, length: usize) -> u8;
     pub fn zangjulf_seat_post(
         seat: *mut SeatHandle,

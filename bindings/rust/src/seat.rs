@@ -69,6 +69,29 @@ impl Drop for End {
     }
 }
 
+/// A view of an image with these bytes and serials.
+fn view_of<'a>(it: &ffi::View, bytes: &'a [u8], serials: [u64; 16]) -> View<'a> {
+    View {
+        showing: it.showing,
+        first_serial: it.first_serial,
+        state: State::of(it.state),
+        taken: it.taken,
+        is_refused: it.is_refused != 0,
+        line: match it.line {
+            2 => LineState::Closed,
+            3 => LineState::Replaced,
+            _ => LineState::Open,
+        },
+        epoch: it.epoch,
+        task_epoch: it.task_epoch,
+        bytes,
+        outputs: it.outputs as usize,
+        datagrams: it.datagrams,
+        has: it.has,
+        serials,
+    }
+}
+
 impl End {
     fn closed() -> End {
         End { handle: ffi::SeatHandle { mark: 0, at: std::ptr::null_mut() } }
@@ -82,25 +105,20 @@ impl End {
             ffi::zangjulf_seat_view(&mut self.handle, bytes, length, serials.as_mut_ptr(), serials.len(), &mut it)
         };
         done(number, 0)?;
-        Ok(View {
-            showing: it.showing,
-            first_serial: it.first_serial,
-            state: State::of(it.state),
-            taken: it.taken,
-            is_refused: it.is_refused != 0,
-            line: match it.line {
-                2 => LineState::Closed,
-                3 => LineState::Replaced,
-                _ => LineState::Open,
-            },
-            epoch: it.epoch,
-            task_epoch: it.task_epoch,
-            bytes: &out[..it.size as usize],
-            outputs: it.outputs as usize,
-            datagrams: it.datagrams,
-            has: it.has,
-            serials,
-        })
+        Ok(view_of(&it, &out[..it.size as usize], serials))
+    }
+
+    fn view_in_place(&mut self) -> Result<View<'_>, Fault> {
+        let mut serials = [0; 16];
+        let mut it = ffi::View::default();
+        let mut image = std::ptr::null();
+        let number = unsafe {
+            ffi::zangjulf_seat_view_in_place(&mut self.handle, &mut image, serials.as_mut_ptr(), serials.len(), &mut it)
+        };
+        done(number, 0)?;
+        // the seat has the bytes until its next view or its close, and neither comes while it is borrowed
+        let bytes = unsafe { std::slice::from_raw_parts(image, it.size as usize) };
+        Ok(view_of(&it, bytes, serials))
     }
 
     fn outputs<'a>(&self, out: &'a mut [u8]) -> Result<&'a mut [u8], Fault> {
@@ -134,6 +152,37 @@ impl Seat {
     /// ```
     pub fn view<'a>(&mut self, out: &'a mut [u8]) -> Result<View<'a>, Fault> {
         self.end.view(out)
+    }
+
+    /// Views the newest image as [`Seat::view`] does, and copies none of its data: the seat lends them for as long as it is borrowed.
+    ///
+    /// ```
+    /// # fn main() -> Result<(), Box<dyn std::error::Error>> {
+    /// # let mut line = zangjulf::Line::open(include_bytes!("../../../examples/tool_changer.toml"))?;
+    /// let mut seat = line.seat(0)?;
+    /// let view = seat.view_in_place()?;
+    /// line.show();
+    /// // what was shown since is another image
+    /// assert_eq!((view.showing, view.outputs, view.bytes), (1, 14, &[0; 26][..]));
+    /// let showing = seat.view_in_place()?.showing;
+    /// let mut out = vec![0; zangjulf::IMAGE];
+    /// assert_eq!((showing, seat.view(&mut out)?.showing), (2, 2));
+    /// # Ok(())
+    /// # }
+    /// ```
+    ///
+    /// ```compile_fail
+    /// # fn main() -> Result<(), Box<dyn std::error::Error>> {
+    /// # let mut line = zangjulf::Line::open(include_bytes!("../../../examples/tool_changer.toml"))?;
+    /// let mut seat = line.seat(0)?;
+    /// let view = seat.view_in_place()?;
+    /// seat.view(&mut [0; 26])?;
+    /// assert_eq!(view.bytes, &[0; 26]); // the image may be another one by now
+    /// # Ok(())
+    /// # }
+    /// ```
+    pub fn view_in_place(&mut self) -> Result<View<'_>, Fault> {
+        self.end.view_in_place()
     }
 
     /// The outputs to begin a post with, [`View::outputs`] bytes at the front of `out`: those of the seat's own last post if they fit
@@ -196,6 +245,11 @@ impl Look {
     /// Views the newest image that was shown, as [`Seat::view`] does. `Room`.
     pub fn view<'a>(&mut self, out: &'a mut [u8]) -> Result<View<'a>, Fault> {
         self.end.view(out)
+    }
+
+    /// Views the newest image in place, as [`Seat::view_in_place`] does.
+    pub fn view_in_place(&mut self) -> Result<View<'_>, Fault> {
+        self.end.view_in_place()
     }
 
     /// The outputs of the viewed image, as they were to be sent when it was shown: [`View::outputs`] bytes at the front of `out`. `Room`

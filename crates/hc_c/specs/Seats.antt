@@ -1,5 +1,7 @@
 -- Calls on a seat: its two ends before and after.
-use Rattle.std.specs.Prelude.{◌≡◌, ◌≢◌, ◌⊎◌, ℕ, ◌+◌, ◌*◌, ◌<◌, ◌≤◌, nat_le, nat_lt, ◌||◌, ◌&&◌, Bool, true, false, List, [], ◌∷◌, ◌++◌, ◌==◌, if◌then◌else◌, not, IfSome, Option, None, Some, drop, is_some, length, map, replicate, set, unwrap_or}
+use Rattle.std.specs.Prelude.{◌≡◌, ◌≢◌, ◌⊎◌, ℕ, ◌+◌, ◌*◌, ◌<◌, ◌≤◌, nat_le, nat_lt, ◌||◌, ◌&&◌, Bool, true, false, List, [], ◌∷◌, ◌++◌, ◌==◌, if◌then◌else◌, not, IfSome, Option, None, Some, drop, is_some, length, map, replicate, set, take, unwrap_or}
+use Rattle.std.specs.Ptr.{Ptr}
+use Rattle.std.specs.Vec.{vec_ptr}
 use Rattle.hc_records.specs.declared.limits.TheConstants.{TASKS}
 use Rattle.hc_events.specs.declared.faults.CoreFault.{CoreFault}
 use Rattle.hc_events.specs.declared.faults.CoreFault.TheVariants.{NoSuchTask, PostLength, StalePost}
@@ -7,7 +9,7 @@ use Rattle.hc_events.specs.Entries.{History}
 use Rattle.hc_events.specs.Faults.{core_fault_number}
 use Rattle.hc_mail.specs.Contents.{StartsWith, counted, newest}
 use Rattle.hc_mail.specs.Ends.{ReceiverEnd, SenderEnd, StaysAtTable, reported, seen}
-use Rattle.hc_mail.specs.Images.{Image, image_kind}
+use Rattle.hc_mail.specs.Images.{Image, ImageEnd, image_kind}
 use Rattle.hc_mail.specs.Posts.{MailedPost, post_kind, mailed_post}
 use Rattle.hc_mail.specs.declared.image.LineState.{LineState}
 use Rattle.hc_mail.specs.declared.image.LineState.TheVariants.{Closed, Open, Replaced}
@@ -41,7 +43,7 @@ abbrev pub at_hand : TaskEnd → Image
 at_hand end = newest image_kind image_room (seen end.images.place)
 
 -- the two ends of a new mailbox hold this image, which the task's end has seen
-pub record BeginWith (image : Image) (owner : SenderEnd Image) (task : ReceiverEnd Image) : Type 0 where
+pub record BeginWith (image : Image) (owner : SenderEnd Image) (task : ImageEnd) : Type 0 where
   pub one_mail : owner.place.table_id ≡ task.place.table_id
   pub shown : seen owner.place ≡ image ∷ []
   pub viewed : seen task.place ≡ image ∷ []
@@ -153,6 +155,14 @@ pub record GivesImage (showing : ℕ) (image : Image) (view : SeatView) (before 
 -- the newest image of a task's end is written
 abbrev pub GivesNewest : TaskEnd → SeatView → List ℕ → List ℕ → List ℕ → List ℕ → Type 0
 GivesNewest end view before after serials serials' = GivesImage (length (seen end.images.place)) (at_hand end) view before after serials serials'
+
+-- the newest image of a task's end is lent in place: the pointer is the address of memory that the end holds, which begins with
+-- the image's bytes; the view and the serials, as many as fit, are written
+pub record LendsNewest (end : TaskEnd) (view : SeatView) (pointer : Ptr) (serials serials' : List ℕ) : Type 0 where
+  pub view_is : view ≡ view_of (length (seen end.images.place)) (at_hand end)
+  pub address : pointer ≡ vec_ptr end.images.memory
+  pub bytes : take (length (at_hand end).bytes) end.images.memory.items ≡ (at_hand end).bytes
+  pub answered_serials : serials' ≡ put_first (serials_answered (at_hand end).serials) serials
 
 -- the post that a seat made last; a blank one before the first
 abbrev pub last_posted : TaskPosts → MailedPost

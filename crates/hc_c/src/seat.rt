@@ -3,6 +3,7 @@
 
 pub mod ends;
 mod handle;
+mod lending;
 pub mod limits;
 pub mod lookers;
 mod looking;

@@ -8,6 +8,7 @@ ghost use Rattle.hc_c.specs.SeatRoom.{image_room, post_room};
 
 use crate::seat::lookers::Lookers;
 use hc_mail::image::TaskImage;
+use hc_mail::image_receiver::ImageReceiver;
 use hc_mail::post::TaskPost;
 use hc_mail::receiver::Receiver;
 use hc_mail::sender::Sender;
@@ -36,7 +37,7 @@ pub struct TaskPosts {
 /// The task's end: it looks at images, and posts unless it only looks.
 #[derive(Drop)]
 pub struct TaskEnd {
-    pub images: Receiver<TaskImage>,
+    pub images: ImageReceiver,
     pub posts: Option<TaskPosts>,
     ghost roomy: { images.room ≡ image_room },
 }

@@ -19,6 +19,7 @@ use hc_core::keeping::Core;
 use hc_events::faults::CoreFault;
 use hc_mail::content::Content;
 use hc_mail::image::{ImageHead, LineState, TaskImage};
+use hc_mail::image_receiver::ImageReceiver;
 use hc_mail::opening::open;
 use hc_mail::post::TaskPost;
 use hc_mail::receiver::Receiver;
@@ -33,7 +34,7 @@ pub fn open_images(
     core: &Core,
     task: u8,
     head: ImageHead,
-) -> Result<(Sender<TaskImage>, Receiver<TaskImage>), AllocError>
+) -> Result<(Sender<TaskImage>, ImageReceiver), AllocError>
     requires { task < TASKS }
     ensures begins { IfOk result (λ ends. BeginWith (image_shown core.now.history task head) ends.0 ends.1) }
     ensures rooms { IfOk result (λ ends. (ends.0.own.room ≡ image_room) × (ends.1.room ≡ image_room)) }
@@ -43,7 +44,7 @@ pub fn open_images(
     receiver.learn(sender.note());
     receiver.look();
     sender.check(receiver.note());
-    Ok((sender, receiver))
+    Ok((sender, ImageReceiver::of(receiver)))
 }
 
 /// Returns the means by which a task posts, and the owner's end of them. `AllocError` if an allocation fails.

@@ -8,12 +8,13 @@ use crate::numbers::{CLOSED, DONE, MISUSED};
 use crate::seat::ends::{TaskEnd, TaskPosts};
 use crate::seat::handle::SeatHandle;
 use hc_events::faults::CoreFault;
-use hc_mail::image::{LineState, TaskImage};
+use hc_mail::image::LineState;
+use hc_mail::viewed::ViewedImage;
 
 /// Returns why outputs cannot be posted for an epoch beside an image, or `None` if they can.
-fn refusal(image: &TaskImage, epoch: u32, bytes: &[u8]) -> Option<CoreFault>
-    requires { image.now.room ≡ image_room }
-    ensures fault { result ≡ seat_fault image.now epoch bytes.now }
+fn refusal(image: &ViewedImage, epoch: u32, bytes: &[u8]) -> Option<CoreFault>
+    requires { image.now.image.room ≡ image_room }
+    ensures fault { result ≡ seat_fault image.now.image epoch bytes.now }
     ensures most { result ≡ None → length bytes.now ≤ post_room.0 }
 {
     let head = image.head();
@@ -37,8 +38,8 @@ fn post_bytes(posts: &mut TaskPosts, epoch: u32, bytes: &[u8]) -> u64
 }
 
 /// Returns whether an image says that the line is open and the seat not replaced.
-fn is_current(image: &TaskImage) -> bool
-    ensures { result ≡ is_current_image image.now }
+fn is_current(image: &ViewedImage) -> bool
+    ensures { result ≡ is_current_image image.now.image }
 {
     match image.head().line {
         LineState::Open => true,

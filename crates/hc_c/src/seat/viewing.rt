@@ -13,8 +13,9 @@ use crate::seat::ends::{TaskEnd, TaskPosts};
 use crate::seat::handle::SeatHandle;
 use crate::states::task_state;
 use crate::widths::{in_16_bits, in_32_bits};
-use hc_mail::image::{LineState, TaskImage};
+use hc_mail::image::LineState;
 use hc_mail::post::TaskPost;
+use hc_mail::viewed::ViewedImage;
 
 /// The image that a seat views, in C.
 #[repr(C)]
@@ -88,7 +89,7 @@ fn put_serials(serials: &[Option<u64>], out: &mut [u64], bit: u32, has: u32) -> 
 
 /// Writes the serial of each datagram, as many as fit, and returns a bit for each, 1 if it has data; the first one's bit is the
 /// least significant.
-fn give_serials(serials: &[Option<u64>], out: &mut [u64]) -> u16
+pub fn give_serials(serials: &[Option<u64>], out: &mut [u64]) -> u16
     requires { length serials.now ≤ MOST_DATAGRAMS }
     ensures serials { out.new ≡ put_first (serials_answered serials.now) out.old }
     ensures mask { result ≡ bit_mask (map is_some serials.now) }
@@ -108,9 +109,9 @@ fn line_number(line: LineState) -> u8
 }
 
 /// Returns the C form of an image; `showing` is its number, and `has` the bits of the datagrams with data.
-fn view_of(showing: u64, has: u16, image: &TaskImage) -> SeatView
-    requires { image.now.room ≡ image_room }
-    ensures { (shown : ℕ) → showing ≡ counted shown → has ≡ bit_mask (map is_some image.now.serials) → result ≡ view_of shown image.now }
+pub fn view_of(showing: u64, has: u16, image: &ViewedImage) -> SeatView
+    requires { image.now.image.room ≡ image_room }
+    ensures { (shown : ℕ) → showing ≡ counted shown → has ≡ bit_mask (map is_some image.now.image.serials) → result ≡ view_of shown image.now.image }
 {
     let head = image.head();
     let serials = image.serials();
@@ -134,14 +135,14 @@ fn view_of(showing: u64, has: u16, image: &TaskImage) -> SeatView
 /// Writes an image with its number. Returns `DONE`, or `ROOM` if `out` is too short.
 fn give_image(
     showing: u64,
-    image: &TaskImage,
+    image: &ViewedImage,
     out: &mut [u8],
     serials: &mut [u64],
     view: &mut SeatView,
 ) -> u8
-    requires { image.now.room ≡ image_room }
-    ensures number { result ≡ fit_number (length image.now.bytes) (length out.old) }
-    ensures image { result ≡ DONE → (shown : ℕ) → showing ≡ counted shown → GivesImage shown image.now view.new out.old out.new serials.old serials.new }
+    requires { image.now.image.room ≡ image_room }
+    ensures number { result ≡ fit_number (length image.now.image.bytes) (length out.old) }
+    ensures image { result ≡ DONE → (shown : ℕ) → showing ≡ counted shown → GivesImage shown image.now.image view.new out.old out.new serials.old serials.new }
     ensures untouched { result ≢ DONE → out.new ≡ out.old }
     ensures unwritten { result ≢ DONE → (serials.new ≡ serials.old) × (view.new ≡ view.old) }
 {
@@ -156,8 +157,8 @@ fn give_image(
 }
 
 /// Returns whether a post was made for an epoch from an image's task epoch on, with as many bytes as the image has outputs.
-fn fits_image(image: &TaskImage, post: &TaskPost) -> bool
-    ensures { result ≡ fits_image image.now post.now }
+fn fits_image(image: &ViewedImage, post: &TaskPost) -> bool
+    ensures { result ≡ fits_image image.now.image post.now }
 {
     image.head().task_epoch <= post.epoch() && post.bytes().len() == image.outputs().len()
 }
@@ -176,8 +177,8 @@ fn give_bytes(outputs: &[u8], out: &mut [u8]) -> u8
 }
 
 /// Returns the outputs to begin with: those of the seat's own last post if it fits the image, otherwise the image's.
-fn outputs_beside<'a>(image: &'a TaskImage, posts: &'a Option<TaskPosts>) -> &'a [u8]
-    ensures { result.now ≡ outputs_beside image.now posts.now }
+fn outputs_beside<'a>(image: &'a ViewedImage, posts: &'a Option<TaskPosts>) -> &'a [u8]
+    ensures { result.now ≡ outputs_beside image.now.image posts.now }
 {
     match posts {
         Some(posts) if fits_image(image, &posts.last) => posts.last.bytes(),

@@ -16,5 +16,5 @@ returns-clause-begins c =
     let b = subst (StartsWith (sends c.check.new.self)) c.note-2.ensures.note.1 c.check.ensures.sent in record {
       one_mail = search rules;
       shown = sent;
-      viewed = ap receives c.note-2.ensures.unchanged ∙ (both-begin (receives c.look.new.self) (sends c.check.new.self) a b ∙ sent);
+      viewed = ap seen c.of.ensures.0 ∙ (ap receives c.note-2.ensures.unchanged ∙ (both-begin (receives c.look.new.self) (sends c.check.new.self) a b ∙ sent));
     }
