@@ -1,7 +1,7 @@
 //! The table that both ends share, and what each of them knows. The table has one word and three slots. The word is the number
 //! of the slot in the middle, and 4 more if a letter was sent since the last look. The sender's letter and the middle one lie
-//! in their slots. The receiver has its letter beside it, so that it may be read without changing the end; in its slot lies
-//! one without room.
+//! in their slots. The receiver has its content beside the table, so that it may be read without changing the end; in its slot
+//! lies a letter whose content has no room.
 ghost use Rattle.std.specs.Prelude.{List};
 ghost use base.Fml.{ftrue};
 ghost use base.Stored.{coded_list};
