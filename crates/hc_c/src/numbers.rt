@@ -14,7 +14,8 @@ pub const MEMORY: u8 = 28;
 /// A slice is too short for what the call writes.
 pub const ROOM: u8 = 29;
 
-/// The answer of a sending with a task that waits for owed register blocks; nothing is sent.
+/// The answer of a sending with a task that waits for owed register blocks, or for registers of slaves outside the line;
+/// nothing is sent.
 pub const WAITS: u8 = 36;
 
 /// The thing that the call asks for does not exist.

@@ -61,7 +61,7 @@ impl<T: Content> Sender<T> {
     }
 
     /// Learns from a note of the receiver that the contents which the receiver had seen are the first that this end sent, in
-    /// their order. It changes nothing else, and can't fail.
+    /// their order. It changes nothing else.
     pub fn check(&mut self, note: Note<T>)
         requires { note.place.table_id ≡ self.old.place.table_id }
         ensures sent { StartsWith (seen self.new.place) (seen note.place) }
